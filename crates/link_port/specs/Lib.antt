@@ -1,0 +1,2 @@
+pub mod DataCode
+pub mod formers
