@@ -1,2 +1,4 @@
 pub mod DataCode
+pub mod Faults
+pub mod Flow
 pub mod formers

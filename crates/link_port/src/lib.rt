@@ -5,14 +5,18 @@
 mod boxes;
 mod lists;
 mod refusals;
+mod streams;
 mod texts;
 mod values;
+mod whole_puts;
 
 pub use boxes::Box;
 pub use lists::List;
 pub use refusals::{Failed, Memory, Short};
+pub use streams::{Ends, Sink, Source};
 pub use texts::Text;
 pub use values::Value;
+pub use whole_puts::put_all;
 
 #[cfg(test)]
 mod tests;
