@@ -46,12 +46,21 @@ content_of (file ∷ files) path = if pointwise ◌==◌ file.0 path then Some f
 abbrev pub found_by : FilesInMemory → List ℕ → Option (List ℕ)
 found_by files path = if is_failing files.calls then None else content_of files.files path
 
+-- the answer to a read that finds this much, or nothing
+abbrev pub AnswersFound : Option (List ℕ) → ℕ → Result (List ℕ) FileFault → Type 0
+AnswersFound found most (Ok bytes) = (found ≡ Some bytes) × (length bytes ≤ most)
+AnswersFound found most (Err TooLong) = IsSomeAnd found (λ content. most < length content)
+AnswersFound found most (Err Failed) = found ≡ None
+AnswersFound found most (Err Memory) = Unit {0}
+
+-- the calls after a read that gave this answer
+abbrev pub calls_after : Calls → Result (List ℕ) FileFault → Calls
+calls_after calls (Ok bytes) = after_call false calls
+calls_after calls (Err TooLong) = after_call false calls
+calls_after calls (Err Failed) = after_call true calls
+calls_after calls (Err Memory) = calls
+
 -- a read of files in memory, exactly
 abbrev pub ReadsInMemory : FilesInMemory → List ℕ → ℕ → Result (List ℕ) FileFault → FilesInMemory → Type 0
-ReadsInMemory old path most (Ok bytes) new =
-    (found_by old path ≡ Some bytes) × (length bytes ≤ most) × (new ≡ record { files = old.files; calls = after_call false old.calls; paths = old.paths ++ path ∷ [] })
-ReadsInMemory old path most (Err TooLong) new =
-    IsSomeAnd (found_by old path) (λ content. most < length content) × (new ≡ record { files = old.files; calls = after_call false old.calls; paths = old.paths ++ path ∷ [] })
-ReadsInMemory old path most (Err Failed) new =
-    (found_by old path ≡ None) × (new ≡ record { files = old.files; calls = after_call true old.calls; paths = old.paths ++ path ∷ [] })
-ReadsInMemory old path most (Err Memory) new = new ≡ old
+ReadsInMemory old path most result new = AnswersFound (found_by old path) most result
+    × (new ≡ record { files = old.files; calls = calls_after old.calls result; paths = paths_after old.paths path result })

@@ -1,8 +1,9 @@
 // Files that are read whole.
-ghost use Rattle.std.specs.Prelude.{◌≡◌, ◌≤◌, ℕ, [], List, None, Ok, IfOk, IfSome, length};
+ghost use Rattle.std.specs.Prelude.{◌≡◌, ◌≤◌, ◌++◌, ◌∷◌, ℕ, [], List, None, Some, Ok, IfOk, IfSome, OnOk, OnErr, length};
 ghost use Rattle.std.specs.declared.option.Option.{Option};
 ghost use Rattle.std.specs.Option.{option_copied};
-ghost use Rattle.link_port.specs.FileReads.{AnswersFile, CountsFault, paths_after, ReadsInMemory, content_of};
+ghost use Rattle.link_port.specs.FileReads.{AnswersFile, AnswersFound, CountsFault, paths_after, content_of, found_by};
+ghost use Rattle.link_port.specs.Planned.{after_call};
 
 use crate::lists::List;
 use crate::planned_calls::CallPlan;
@@ -94,6 +95,60 @@ impl MemFiles {
             paths: List::new(alloc),
         })
     }
+
+    // What the next read finds.
+    fn found(&self, path: &str) -> Option<&List<u8>>
+        ensures { option_copied result ≡ found_by self.now path.now }
+    {
+        if self.calls.is_failing() {
+            None
+        } else {
+            first_content(self.files.as_slice(), path)
+        }
+    }
+
+    // Records a read, which failed or did not. After want of memory nothing was recorded.
+    fn record_read(&mut self, path: Text, failed: bool) -> Result<(), Memory>
+        ensures ok { OnOk result (self.new ≡ record { files = self.old.files;
+            calls = after_call failed self.old.calls; paths = self.old.paths ++ path ∷ [] }) }
+        ensures memory { OnErr result (self.new ≡ self.old) }
+    {
+        self.paths.push(path)?;
+        self.calls.count(failed);
+        Ok(())
+    }
+}
+
+impl Files for MemFiles {
+    ghost use Rattle.std.specs.Prelude.{Some};
+    ghost use Rattle.link_port.specs.FileReads.{content_of, ReadsInMemory};
+
+    ghost holds = { λ it path. content_of it.files path };
+
+    ghost paths = { λ it. Some it.paths };
+
+    ghost faults = { λ it. it.calls.faults };
+
+    fn read(&mut self, alloc: Global, path: &str, most: u64) -> Result<List<u8>, FileFault>
+        ensures exact { ReadsInMemory self.old path.now most result self.new }
+    {
+        let name = Text::of(alloc, path)?;
+        match answer_of(alloc, self.found(path), most) {
+            Ok(bytes) => {
+                self.record_read(name, false)?;
+                Ok(bytes)
+            }
+            Err(FileFault::TooLong) => {
+                self.record_read(name, false)?;
+                Err(FileFault::TooLong)
+            }
+            Err(FileFault::Failed) => {
+                self.record_read(name, true)?;
+                Err(FileFault::Failed)
+            }
+            Err(FileFault::Memory) => Err(FileFault::Memory),
+        }
+    }
 }
 
 // What the first file of this name holds.
@@ -106,4 +161,22 @@ fn first_content<'a>(files: &'a [(Text, List<u8>)], path: &str) -> Option<&'a Li
         }
     }
     None
+}
+
+// The answer to a read that found this content, or nothing.
+fn answer_of(
+    alloc: Global,
+    found: Option<&List<u8>>,
+    most: u64,
+) -> Result<List<u8>, FileFault>
+    ensures { AnswersFound (option_copied found.entry) most result }
+{
+    match found {
+        None => Err(FileFault::Failed),
+        Some(content) if content.len() > most => Err(FileFault::TooLong),
+        Some(content) => match Vec::from_slice(alloc, content.as_slice()) {
+            Ok(bytes) => Ok(List::from_vec(bytes)),
+            Err(_) => Err(FileFault::Memory),
+        },
+    }
 }
