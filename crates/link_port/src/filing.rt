@@ -70,7 +70,7 @@ pub struct MemFiles {
 
 impl Model for MemFiles {
     ghost use Rattle.std.specs.Option.{option_copied};
-ghost use Rattle.link_port.specs.FileReads.{FilesInMemory};
+    ghost use Rattle.link_port.specs.FileReads.{FilesInMemory};
 
     ghost Value = { FilesInMemory };
 
@@ -86,8 +86,11 @@ impl MemFiles {
         files: List<(Text, List<u8>)>,
         failing: List<u64>,
     ) -> Result<MemFiles, Memory>
-        ensures { result ≡ Ok (record { files = files; paths = [];
-            calls = record { failing = failing; number = 0; faults = 0 } }) }
+        ensures { result ≡ Ok (record {
+          files = files;
+          paths = [];
+          calls = record { failing = failing; number = 0; faults = 0 };
+        }) }
     {
         Ok(MemFiles {
             files,
@@ -109,8 +112,11 @@ impl MemFiles {
 
     // Records a read, which failed or did not. After want of memory nothing was recorded.
     fn record_read(&mut self, path: Text, failed: bool) -> Result<(), Memory>
-        ensures ok { OnOk result (self.new ≡ record { files = self.old.files;
-            calls = after_call failed self.old.calls; paths = self.old.paths ++ path ∷ [] }) }
+        ensures ok { OnOk result (self.new ≡ record {
+          files = self.old.files;
+          calls = after_call failed self.old.calls;
+          paths = self.old.paths ++ path ∷ [];
+        }) }
         ensures memory { OnErr result (self.new ≡ self.old) }
     {
         self.paths.push(path)?;
@@ -164,11 +170,7 @@ fn first_content<'a>(files: &'a [(Text, List<u8>)], path: &str) -> Option<&'a Li
 }
 
 // The answer to a read that found this content, or nothing.
-fn answer_of(
-    alloc: Global,
-    found: Option<&List<u8>>,
-    most: u64,
-) -> Result<List<u8>, FileFault>
+fn answer_of(alloc: Global, found: Option<&List<u8>>, most: u64) -> Result<List<u8>, FileFault>
     ensures { AnswersFound (option_copied found.entry) most result }
 {
     match found {

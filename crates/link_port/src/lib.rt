@@ -27,4 +27,6 @@ pub use values::Value;
 pub use whole_puts::put_all;
 
 #[cfg(test)]
+mod stream_tests;
+#[cfg(test)]
 mod tests;

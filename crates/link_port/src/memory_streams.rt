@@ -38,8 +38,11 @@ impl MemSource {
         sizes: List<u64>,
         failing: List<u64>,
     ) -> Result<MemSource, Memory>
-        ensures { result ≡ Ok (record { left = bytes; sizes = sizes;
-            calls = record { failing = failing; number = 0; faults = 0 } }) }
+        ensures { result ≡ Ok (record {
+          left = bytes;
+          sizes = sizes;
+          calls = record { failing = failing; number = 0; faults = 0 };
+        }) }
     {
         Ok(MemSource {
             unread: UnreadBytes::new(bytes),
@@ -105,8 +108,12 @@ impl MemSink {
         sizes: List<u64>,
         failing: List<u64>,
     ) -> Result<MemSink, Memory>
-        ensures { IfOk result (λ sink. sink ≡ record { written = []; room = room; sizes = sizes;
-            calls = record { failing = failing; number = 0; faults = 0 } }) }
+        ensures { IfOk result (λ sink. sink ≡ record {
+          written = [];
+          room = room;
+          sizes = sizes;
+          calls = record { failing = failing; number = 0; faults = 0 };
+        }) }
     {
         let room = room as usize;
         Ok(MemSink {
