@@ -1,0 +1,103 @@
+// The ends of the real console. They tell no bytes, and count each error of the system.
+ghost use Rattle.std.specs.Prelude.{◌≤◌, IfOk, length};
+
+use link_port::{Ends, Failed, Sink, Source};
+use std::io;
+use std::io::{ErrorKind, Read, Write};
+
+/// What bytes of the system are taken from, as standard input.
+#[derive(Debug, Drop)]
+pub struct RealInput<R> {
+    reader: R,
+    faults: u64,
+}
+
+impl<R> RealInput<R> {
+    /// A source over a reader, without a fault so far.
+    pub fn new(reader: R) -> RealInput<R> {
+        RealInput { reader, faults: 0 }
+    }
+}
+
+impl<R> Ends for RealInput<R> {
+    ghost read_faults = { λ input. input.faults };
+}
+
+impl<R: Read> Source for RealInput<R> {
+    fn take(&mut self, into: &mut [u8]) -> Result<usize, Failed> {
+        match read_uninterrupted(&mut self.reader, into) {
+            Ok(count) => Ok(count),
+            Err(_) => {
+                self.faults = self.faults.saturating_add(1);
+                Err(Failed)
+            }
+        }
+    }
+}
+
+/// What bytes of the system are put to, as standard output and standard error.
+#[derive(Debug, Drop)]
+pub struct RealOutput<W> {
+    writer: W,
+    faults: u64,
+}
+
+impl<W> RealOutput<W> {
+    /// A sink over a writer, without a fault so far.
+    pub fn new(writer: W) -> RealOutput<W> {
+        RealOutput { writer, faults: 0 }
+    }
+}
+
+impl<W> Ends for RealOutput<W> {
+    ghost write_faults = { λ output. output.faults };
+}
+
+impl<W: Write> Sink for RealOutput<W> {
+    // A write of nothing is a fault too.
+    fn put(&mut self, piece: &[u8]) -> Result<usize, Failed> {
+        match write_uninterrupted(&mut self.writer, piece) {
+            Ok(count) if count > 0 => Ok(count),
+            _ => {
+                self.faults = self.faults.saturating_add(1);
+                Err(Failed)
+            }
+        }
+    }
+
+    fn finish(&mut self) -> Result<(), Failed> {
+        match self.writer.flush() {
+            Ok(()) => Ok(()),
+            Err(_) => {
+                self.faults = self.faults.saturating_add(1);
+                Err(Failed)
+            }
+        }
+    }
+}
+
+// Reads once, and again where a signal came between.
+fn read_uninterrupted<R: Read>(reader: &mut R, into: &mut [u8]) -> io::Result<usize>
+    ensures { IfOk result (λ count. count ≤ length into.new) }
+{
+    for _ in 0..u64::MAX {
+        match reader.read(into) {
+            Err(error) if error.kind() == ErrorKind::Interrupted => {}
+            outcome => return outcome,
+        }
+    }
+    Err(io::Error::from(ErrorKind::Interrupted))
+}
+
+// Writes once, and again where a signal came between.
+fn write_uninterrupted<W: Write>(writer: &mut W, piece: &[u8]) -> io::Result<usize>
+    ensures { IfOk result (λ count. count ≤ length piece.now) }
+{
+    for _ in 0..u64::MAX {
+        match writer.write(piece) {
+            Err(error) if error.kind() == ErrorKind::Interrupted => {}
+            outcome => return outcome,
+        }
+    }
+    Err(io::Error::from(ErrorKind::Interrupted))
+}
