@@ -1,6 +1,6 @@
 // The real files. They tell neither what they hold nor what was read, and count each error of the
 // system.
-ghost use Rattle.std.specs.Prelude.{◌≤◌, IfOk, vec_len};
+ghost use Rattle.std.specs.Prelude.{◌≡◌};
 
 use link_port::{FileFault, Files, List};
 use std::alloc::Global;
@@ -14,9 +14,11 @@ pub struct RealFiles<R> {
     faults: u64,
 }
 
-impl<R> RealFiles<R> {
+impl<R: rt::Files> RealFiles<R> {
     /// The files of a system, without a fault so far.
-    pub fn new(system: R) -> RealFiles<R> {
+    pub fn new(system: R) -> RealFiles<R>
+        ensures { ⟦<RealFiles<R> as Files>⟧.faults result ≡ 0 }
+    {
         RealFiles { system, faults: 0 }
     }
 }

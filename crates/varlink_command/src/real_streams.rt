@@ -1,5 +1,5 @@
 // The ends of the real console. They tell no bytes, and count each error of the system.
-ghost use Rattle.std.specs.Prelude.{◌≤◌, IfOk, length};
+ghost use Rattle.std.specs.Prelude.{◌≡◌, ◌≤◌, IfOk, length};
 
 use link_port::{Ends, Failed, Sink, Source};
 use std::io;
@@ -14,7 +14,9 @@ pub struct RealInput<R> {
 
 impl<R> RealInput<R> {
     /// A source over a reader, without a fault so far.
-    pub fn new(reader: R) -> RealInput<R> {
+    pub fn new(reader: R) -> RealInput<R>
+        ensures { ⟦<RealInput<R> as Ends>⟧.read_faults result ≡ 0 }
+    {
         RealInput { reader, faults: 0 }
     }
 }
@@ -44,7 +46,9 @@ pub struct RealOutput<W> {
 
 impl<W> RealOutput<W> {
     /// A sink over a writer, without a fault so far.
-    pub fn new(writer: W) -> RealOutput<W> {
+    pub fn new(writer: W) -> RealOutput<W>
+        ensures { ⟦<RealOutput<W> as Ends>⟧.write_faults result ≡ 0 }
+    {
         RealOutput { writer, faults: 0 }
     }
 }
