@@ -1,0 +1,5 @@
+pub mod Pieces
+pub mod Held
+pub mod Room
+pub mod Steps
+pub mod Runs
