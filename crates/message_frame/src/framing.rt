@@ -1,7 +1,9 @@
 //! Bytes of a stream, held until they are whole messages.
-ghost use Rattle.std.specs.Prelude.{◌≡◌, ◌+◌, ◌^◌, ◌≤◌, [], length, IfOk};
+ghost use Rattle.std.specs.Prelude.{◌≡◌, ◌+◌, ◌^◌, ◌≤◌, [], ◌++◌, length, take, drop, IfOk, vec_len, vec_capacity};
 ghost use Rattle.message_frame.specs.Held.{Held};
 ghost use Rattle.message_frame.specs.Steps.{Feeds, Clears};
+ghost use Rattle.message_frame.specs.Pieces.{NoNul};
+ghost use Rattle.message_frame.specs.Room.{FindsNul};
 
 use link_port::Memory;
 use memchr::memchr;
@@ -75,14 +77,11 @@ impl Frames {
         let held = self.buffer.len() - self.start;
         let taken = piece.len().min(room - held);
         if room - self.buffer.len() < taken {
-            self.buffer.copy_within(self.start.., 0);
-            self.buffer.truncate(held);
+            slide(&mut self.buffer, self.start);
             self.start = 0;
         }
-        match self.buffer.extend_from_slice(&piece[..taken]) {
-            Ok(()) => taken,
-            Err(_) => unreachable!(),
-        }
+        append(&mut self.buffer, &piece[..taken]);
+        taken
     }
 
     /// Gives the first message held, or tells why there is none.
@@ -90,10 +89,9 @@ impl Frames {
         ensures* { sem 𝓛 (follows_so the_row the_row self.entry.ghost_name none (λ _ _. ⊤) (Gives self.old result)) }
     {
         let first = self.start;
-        let unsearched = first + self.searched;
-        match memchr(0, &self.buffer[unsearched..]) {
+        match first_nul(&self.buffer[first..], self.searched) {
             Some(place) => {
-                let end = unsearched + place;
+                let end = first + place;
                 self.start = end + 1;
                 self.searched = 0;
                 Next::Payload(&self.buffer[first..end])
@@ -124,5 +122,37 @@ impl Frames {
         self.buffer.clear();
         self.start = 0;
         self.searched = 0;
+    }
+}
+
+/// The place of the first NUL. The first `searched` bytes are known to hold none.
+fn first_nul(bytes: &[u8], searched: usize) -> Option<usize>
+    requires within { searched ≤ length bytes.now }
+    requires no_nul { NoNul (take searched bytes.now) }
+    ensures { FindsNul bytes.now result }
+{
+    let place = memchr(0, &bytes[searched..])?;
+    Some(searched + place)
+}
+
+/// Drops the first `count` bytes, and moves the others to the front.
+fn slide(buffer: &mut Vec<u8>, count: usize)
+    requires { count ≤ vec_len buffer.old }
+    ensures items { buffer.new.items ≡ drop count buffer.old.items }
+    ensures room { vec_capacity buffer.new ≡ vec_capacity buffer.old }
+{
+    let left = buffer.len() - count;
+    buffer.copy_within(count.., 0);
+    buffer.truncate(left);
+}
+
+/// Puts the bytes at the end of a buffer that has room for them.
+fn append(buffer: &mut Vec<u8>, bytes: &[u8])
+    requires { vec_len buffer.old + length bytes.now ≤ vec_capacity buffer.old }
+    ensures items { buffer.new.items ≡ buffer.old.items ++ bytes.now }
+    ensures room { vec_capacity buffer.old ≤ vec_capacity buffer.new }
+{
+    if buffer.extend_from_slice(bytes).is_err() {
+        unreachable!();
     }
 }
