@@ -3,3 +3,4 @@ pub mod Held
 pub mod Room
 pub mod Steps
 pub mod Runs
+pub mod Lending

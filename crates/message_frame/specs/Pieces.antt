@@ -1,5 +1,5 @@
--- A stream of messages. Each message is its payload followed by one NUL byte (varlink.org, "Method Call":
--- a message is encoded as a JSON object and terminated by a single NUL byte).
+-- A stream of messages. Each message is its payload followed by one NUL byte (varlink.org, "Method
+-- Call": a message is a JSON object, terminated by a single NUL byte).
 use Rattle.std.specs.Prelude.{◌≡◌, ◌≢◌, ℕ, List, [], ◌∷◌, ◌++◌, ◌==◌, if◌then◌else◌}
 use Rattle.std.specs.List.{AllByRecursion, flat_map}
 
@@ -39,4 +39,4 @@ abbrev pub OneCut : Type 0
 OneCut =
     (bytes : List ℕ) → ArePieces bytes (pieces bytes).payloads (pieces bytes).rest
     × ((payloads : List (List ℕ)) (rest : List ℕ) → ArePieces bytes payloads rest →
-        (payloads ≡ (pieces bytes).payloads) × (rest ≡ (pieces bytes).rest))
+    (payloads ≡ (pieces bytes).payloads) × (rest ≡ (pieces bytes).rest))

@@ -1,5 +1,6 @@
 //! Bytes of a stream, held until they are whole messages.
-ghost use Rattle.std.specs.Prelude.{◌≡◌, ◌+◌, ◌^◌, ◌≤◌, [], ◌++◌, length, take, drop, IfOk, vec_len, vec_capacity};
+ghost use Rattle.std.specs.Prelude.{◌≡◌, ◌+◌, ◌^◌, ◌≤◌, [], ◌++◌, length, take, drop, IfOk};
+ghost use Rattle.std.specs.Prelude.{vec_len, vec_capacity};
 ghost use Rattle.message_frame.specs.Held.{Held};
 ghost use Rattle.message_frame.specs.Steps.{Feeds, Clears};
 ghost use Rattle.message_frame.specs.Pieces.{NoNul};
@@ -11,7 +12,7 @@ use std::alloc::Global;
 use std::marker::Model;
 
 /// What `Frames::next` gives.
-#[derive(Debug)]
+#[derive(Debug, Clone, Copy, PartialEq, Eq)]
 pub enum Next<'a> {
     /// The payload of the first message held, without its NUL.
     Payload(&'a [u8]),
@@ -23,8 +24,9 @@ pub enum Next<'a> {
 
 /// The bytes taken from a stream and not yet given as payloads.
 ///
-/// Room for the limit and one byte is reserved once. A payload is lent where it lies: the bytes move to the front of
-/// the room only in a `feed` that finds too little room at its end, and no byte is searched for a NUL twice.
+/// Room for the limit and one byte is reserved once, and no call takes memory after that. A payload
+/// is lent where it lies: bytes move to the front of the room only in a `feed` that finds too little
+/// room at its end. No byte is searched for a NUL twice.
 #[derive(Drop)]
 pub struct Frames {
     limit: u64,
@@ -48,11 +50,9 @@ impl Model for Frames {
 }
 
 impl Frames {
-    ghost use Rattle.std.specs.Prelude.{⊤};
-    ghost use Rattle.std.specs.Borrow.{sem, follows_so};
-    ghost use mathlib.Core.Option.{none};
+    ghost use Rattle.std.specs.Borrow.{sem};
     ghost use Rattle.message_frame.specs.Steps.{Gives};
-    ghost use Rattle.message_frame.specs.contracts.framing.Frames.{the_row};
+    ghost use Rattle.message_frame.specs.Lending.{Leaves};
 
     /// An empty `Frames` for payloads of at most `limit` bytes.
     pub fn new(alloc: Global, limit: u64) -> Result<Frames, Memory>
@@ -60,7 +60,7 @@ impl Frames {
         requires most { limit ≤ 2 ^ 30 }
         ensures { IfOk result (λ frames. frames ≡ record { limit = limit; bytes = [] }) }
     {
-        let buffer = Vec::with_capacity(alloc, limit as usize + 1).map_err(|_| Memory)?;
+        let buffer = Vec::with_capacity(alloc, limit as usize + 1)?;
         Ok(Frames {
             limit,
             buffer,
@@ -86,7 +86,7 @@ impl Frames {
 
     /// Gives the first message held, or tells why there is none.
     pub fn next(&mut self) -> Next<'_>
-        ensures* { sem 𝓛 (follows_so the_row the_row self.entry.ghost_name none (λ _ _. ⊤) (Gives self.old result)) }
+        ensures* { sem 𝓛 (Leaves self.entry (Gives self.old result)) }
     {
         let first = self.start;
         match first_nul(&self.buffer[first..], self.searched) {
