@@ -1,7 +1,8 @@
--- Which payload is which call (varlink.org, "Method Call": an object with `method` and optionally `parameters`,
--- `oneway`, `more` and `upgrade`), and the first fault of a payload that is none. A member that is null counts as
--- absent, and unknown members are ignored.
-use Rattle.std.specs.Prelude.{◌≡◌, ℕ, List, Bool, false, ◌==◌, length, codes, if◌then◌else◌, IsTrue, Option, Some, None, Result, Ok, Err, is_some, ⊤}
+-- Which payload is which call, and the first fault of one that is none (varlink.org, "Method Call": a
+-- call is an object with `method` and optionally `parameters`, `oneway`, `more` and `upgrade`). A
+-- member that is null counts as absent, and unknown members are ignored.
+use Rattle.std.specs.Prelude.{◌≡◌, ℕ, List, Bool, false, ◌==◌, length, codes, if◌then◌else◌}
+use Rattle.std.specs.Prelude.{IsTrue, Option, Some, None, Result, Ok, Err, is_some, ⊤}
 use Rattle.std.specs.Str.Lossy.{utf8_valid_len}
 use Rattle.serde_json.specs.Data.{Data, null, boolean, string, object, no_members}
 use Rattle.serde_json.specs.Read.{read}
@@ -10,10 +11,12 @@ use Rattle.serde_json.specs.View.{view}
 use Rattle.serde_json.specs.declared.value.Value.{Value}
 use Rattle.call_form.specs.declared.Call.{Call}
 use Rattle.call_form.specs.declared.CallFault.{CallFault}
-use Rattle.call_form.specs.declared.CallFault.TheVariants.{NotUtf8, NotJson, NotObject, NoMethod, BadFlag, BadParameters, Memory}
+use Rattle.call_form.specs.declared.CallFault.TheVariants.{NotUtf8, NotJson, NotObject, NoMethod}
+use Rattle.call_form.specs.declared.CallFault.TheVariants.{BadFlag, BadParameters, Memory}
 
 infixl 10 ◌>>=◌
-abbrev pub ◌>>=◌ : {A B : Type 0} → Result A CallFault → (A → Result B CallFault) → Result B CallFault
+abbrev pub ◌>>=◌ : {A B : Type 0} → Result A CallFault → (A → Result B CallFault) →
+    Result B CallFault
 (Ok x) >>= f = f x
 (Err fault) >>= f = Err fault
 
@@ -22,7 +25,9 @@ abbrev pub IsObject : Data → Type 0
 IsObject tree = IsTrue (is_some (as_object tree))
 
 abbrev pub utf8_of : List ℕ → Result (List ℕ) CallFault
-utf8_of payload = let valid = utf8_valid_len payload in if valid == length payload then Ok payload else Err (NotUtf8 valid)
+utf8_of payload =
+    let valid = utf8_valid_len payload in
+    if valid == length payload then Ok payload else Err (NotUtf8 valid)
 
 abbrev pub json_of : List ℕ → Result Data CallFault
 json_of text = found (read text)
@@ -53,12 +58,12 @@ parameters_of _ = Err BadParameters
 -- the call that an object is
 unfoldable pub call_in : Data → Result Call CallFault
 call_in message = do
-  method ← method_of (get (codes "method") message)
+  word ← method_of (get (codes "method") message)
   oneway ← flag_of (get (codes "oneway") message)
   more ← flag_of (get (codes "more") message)
   upgrade ← flag_of (get (codes "upgrade") message)
-  parameters ← parameters_of (get (codes "parameters") message)
-  Ok (record { method = method; parameters = parameters; oneway = oneway; more = more; upgrade = upgrade })
+  given ← parameters_of (get (codes "parameters") message)
+  Ok (record { method = word; parameters = given; oneway = oneway; more = more; upgrade = upgrade })
 
 -- the call that a payload is, or its first fault
 unfoldable pub call_of : List ℕ → Result Call CallFault

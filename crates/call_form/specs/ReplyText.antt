@@ -1,6 +1,7 @@
--- The text of a reply (varlink.org, "Method Call": an object with optionally `parameters`, `continues` and
--- `error`, and a NUL byte after it).
-use Rattle.std.specs.Prelude.{◌≡◌, ℕ, List, [], ◌∷◌, ◌++◌, Bool, true, false, codes, Option, Some, None}
+-- The text of a reply (varlink.org, "Method Call": an object with optionally `parameters`,
+-- `continues` and `error`, and a NUL byte after it).
+use Rattle.std.specs.Prelude.{◌≡◌, ℕ, List, [], ◌∷◌, ◌++◌, Bool, true, false, codes, Option, Some}
+use Rattle.std.specs.Prelude.{None}
 use Rattle.serde_json.specs.Data.{Data, boolean, string, object, Members, no_members, member}
 use Rattle.serde_json.specs.Written.{compact_text, has_float}
 use Rattle.call_form.specs.CallOf.{IsObject}
@@ -16,10 +17,12 @@ abbrev pub with_error : Option (List ℕ) → Members → Members
 with_error (Some name) members = member (codes "error") (string name) members
 with_error None members = members
 
--- a reply as a JSON tree; its members are in the order of their keys, and `parameters` is always among them
+-- a reply as a JSON tree; its members are in the order of their keys, and `parameters` is always
+-- among them
 unfoldable pub reply_tree : Reply → Data
 reply_tree reply =
-    object (with_continues reply.continues (with_error reply.error (member (codes "parameters") reply.parameters no_members)))
+    let parameters = member (codes "parameters") reply.parameters no_members in
+    object (with_continues reply.continues (with_error reply.error parameters))
 
 -- a reply as a message: its compact text and a NUL
 abbrev pub reply_bytes : Reply → List ℕ
@@ -30,7 +33,7 @@ pub record IsWritable (reply : Reply) : Type 0 where
   pub is_object : IsObject reply.parameters
   pub no_float : has_float reply.parameters ≡ false
 
--- the members as they are written
+-- the members as they stand in the text
 abbrev pub continues_text : Bool → List ℕ
 continues_text true = codes "\"continues\":true,"
 continues_text false = []

@@ -13,16 +13,36 @@ pub fn standard(alloc: Global, error: StdError) -> Result<Reply, Memory>
 {
     match error {
         StdError::InterfaceNotFound(interface) => {
-            error_reply(alloc, "org.varlink.service.InterfaceNotFound", "interface", &interface)
+            error_reply(
+                alloc,
+                "org.varlink.service.InterfaceNotFound",
+                "interface",
+                &interface,
+            )
         }
         StdError::MethodNotFound(method) => {
-            error_reply(alloc, "org.varlink.service.MethodNotFound", "method", &method)
+            error_reply(
+                alloc,
+                "org.varlink.service.MethodNotFound",
+                "method",
+                &method,
+            )
         }
         StdError::MethodNotImplemented(method) => {
-            error_reply(alloc, "org.varlink.service.MethodNotImplemented", "method", &method)
+            error_reply(
+                alloc,
+                "org.varlink.service.MethodNotImplemented",
+                "method",
+                &method,
+            )
         }
         StdError::InvalidParameter(parameter) => {
-            error_reply(alloc, "org.varlink.service.InvalidParameter", "parameter", &parameter)
+            error_reply(
+                alloc,
+                "org.varlink.service.InvalidParameter",
+                "parameter",
+                &parameter,
+            )
         }
     }
 }

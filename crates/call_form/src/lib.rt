@@ -73,7 +73,8 @@ pub enum StdError {
     InvalidParameter(Text),
 }
 
-/// Why a payload is no call: the first that applies, in this order. `Memory` alone tells nothing of the payload.
+/// Why a payload is no call: the first that applies, in this order. `Memory` alone tells nothing
+/// of the payload.
 #[derive(Debug, Clone, Copy, PartialEq, Eq)]
 pub enum CallFault {
     /// It is not UTF-8.
@@ -114,3 +115,6 @@ impl From<Memory> for CallFault {
         CallFault::Memory
     }
 }
+
+#[cfg(test)]
+mod tests;

@@ -2,7 +2,8 @@
 ghost use Rattle.std.specs.Prelude.{◌≡◌, codes, IfOk, MatchResult};
 ghost use Rattle.serde_json.specs.Find.{get};
 ghost use Rattle.serde_json.specs.View.{view};
-ghost use Rattle.call_form.specs.CallOf.{IsObject, ReadsCall, Reads, ReadsJson, utf8_of, json_of, method_of};
+ghost use Rattle.call_form.specs.CallOf.{IsObject, ReadsCall, Reads, ReadsJson, utf8_of, json_of};
+ghost use Rattle.call_form.specs.CallOf.{method_of};
 ghost use Rattle.call_form.specs.CallOf.{flag_of, parameters_of, call_in};
 
 use crate::{Call, CallFault};
@@ -55,7 +56,8 @@ fn json_value(alloc: Global, text: &str) -> Result<Json, CallFault>
 /// The members of a call, in the order in which they are refused.
 #[tactic(auto, unfolding(crate::specs::CallOf::call_in))]
 fn call_from(alloc: Global, message: Json) -> Result<Call, CallFault>
-    ensures { Reads result (call_in (view message)) }
+    ensures call { Reads result (call_in (view message)) }
+    ensures parameters { IfOk result (λ call. IsObject call.parameters) }
 {
     let method = method(alloc, &message)?;
     let oneway = flag(&message, "oneway")?;
@@ -91,7 +93,8 @@ fn flag(message: &Json, name: &str) -> Result<bool, CallFault>
 }
 
 fn take_parameters(alloc: Global, mut message: Json) -> Result<Value, CallFault>
-    ensures { result ≡ parameters_of (get (codes "parameters") (view message)) }
+    ensures value { result ≡ parameters_of (get (codes "parameters") (view message)) }
+    ensures object { IfOk result (λ parameters. IsObject parameters) }
 {
     match message.get_mut("parameters") {
         None | Some(Json::Null) => Ok(Value::of(Json::Object(Map::new(alloc)))),

@@ -9,20 +9,20 @@ use link_port::{List, Memory, Text};
 use serde_json::Value as Json;
 use std::alloc::Global;
 
-/// The compact text of a reply and its NUL. The parameters are written where they stand and not copied.
-#[tactic(auto, unfolding(crate::specs::ReplyText::reply_tree, serde_json::proofs::OnLiterals::serde_json_on_literals))]
+/// The compact text of a reply and its NUL. The parameters are written where they stand and not
+/// copied.
 pub fn reply_text(alloc: Global, reply: &Reply) -> Result<List<u8>, Memory>
     requires { IsWritable reply.now }
     ensures { IfOk result (λ text. text ≡ reply_bytes reply.now) }
 {
     let parameters = reply.parameters.inner().to_vec(alloc)?;
     let mut text = Vec::new(alloc);
-    text.extend_from_slice(b"{")?;
+    put(&mut text, b"{")?;
     put_continues(&mut text, reply.continues)?;
     put_error(alloc, &mut text, &reply.error)?;
-    text.extend_from_slice(b"\"parameters\":")?;
-    text.extend_from_slice(&parameters)?;
-    text.extend_from_slice(b"}\0")?;
+    put(&mut text, b"\"parameters\":")?;
+    put(&mut text, &parameters)?;
+    put(&mut text, b"}\0")?;
     Ok(List::from_vec(text))
 }
 
@@ -30,7 +30,7 @@ fn put_continues(text: &mut Vec<u8>, continues: bool) -> Result<(), Memory>
     ensures { OnOk result (text.new.items ≡ text.old.items ++ continues_text continues) }
 {
     if continues {
-        text.extend_from_slice(b"\"continues\":true,")?;
+        put(text, b"\"continues\":true,")?;
     }
     Ok(())
 }
@@ -40,9 +40,17 @@ fn put_error(alloc: Global, text: &mut Vec<u8>, error: &Option<Text>) -> Result<
 {
     if let Some(name) = error {
         let name = Json::try_from_str(alloc, name.as_str())?.to_vec(alloc)?;
-        text.extend_from_slice(b"\"error\":")?;
-        text.extend_from_slice(&name)?;
-        text.extend_from_slice(b",")?;
+        put(text, b"\"error\":")?;
+        put(text, &name)?;
+        put(text, b",")?;
     }
+    Ok(())
+}
+
+/// Puts bytes at the end of the text.
+fn put(text: &mut Vec<u8>, piece: &[u8]) -> Result<(), Memory>
+    ensures { OnOk result (text.new.items ≡ text.old.items ++ piece.now) }
+{
+    text.extend_from_slice(piece)?;
     Ok(())
 }
