@@ -1,0 +1,3 @@
+pub mod CallOf
+pub mod ReplyText
+pub mod StdErrors

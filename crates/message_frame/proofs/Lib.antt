@@ -1,0 +1,3 @@
+pub mod NulLemmas
+pub mod PieceLemmas
+pub mod RunLemmas
