@@ -1,6 +1,6 @@
 -- What the calls of sources and sinks do to the bytes that are left and to those that were written.
 -- Bytes that an object does not tell are `None`.
-use Rattle.std.specs.Prelude.{◌≡◌, ◌↔◌, ℕ, List, [], take, IfSome, Result, MatchResult}
+use Rattle.std.specs.Prelude.{◌≡◌, ◌↔◌, ℕ, List, [], ◌++◌, take, IfSome, Result, MatchResult}
 use Rattle.std.specs.declared.option.Option.{Option}
 use Rattle.std.specs.Io.KnownBytes.{Appends, Consumes}
 
@@ -19,3 +19,10 @@ EndsWhereNothingIsLeft before result = MatchResult result (λ n. IfSome before (
 -- a put appended the first n bytes of `piece`, and a failed one appended nothing
 abbrev pub PutsFront : {E : Type 0} → Option (List ℕ) → Option (List ℕ) → Result ℕ E → List ℕ → Type 0
 PutsFront before now result piece = MatchResult result (λ n. Appends before now (take n piece)) (λ _. now ≡ before)
+
+-- a front of these bytes was appended
+pub record AppendsFront (before now : Option (List ℕ)) (all : List ℕ) : Type 0 where
+  pub front : List ℕ
+  pub rest : List ℕ
+  pub whole : all ≡ front ++ rest
+  pub wrote : Appends before now front

@@ -5,7 +5,8 @@ use Rattle.std.specs.Borrow.{Bor}
 use Rattle.std.specs.declared.option.Option.{Option}
 use Rattle.std.specs.Io.KnownBytes.{Appends}
 use Rattle.std.proofs.KnownBytes.{Appends-trans}
-use Rattle.varlink_command.specs.Lines.{joined, AppendsFront}
+use Rattle.link_port.specs.Flow.{AppendsFront}
+use Rattle.varlink_command.specs.Lines.{joined}
 
 -- the texts from i on are the text at i and those after it
 pub joined-next : (texts : List (Bor (List ℕ))) (i : ℕ) (d : Bor (List ℕ)) (piece : List ℕ) → i < length texts → piece ≡ (get_or texts i d).now
@@ -27,5 +28,5 @@ AppendsFront-more a b c all done piece after n whole first second = record {
   whole = whole ∙ ap (λ (l : List ℕ). (done ++ l) ++ after) (sym (take-append-drop n piece))
       ∙ ap (λ (l : List ℕ). l ++ after) (sym (append_assoc done (take n piece) (drop n piece)))
       ∙ append_assoc (done ++ take n piece) (drop n piece) after;
-  appended = Appends-trans a b c _ _ first second;
+  wrote = Appends-trans a b c _ _ first second;
 }

@@ -5,17 +5,11 @@ use Rattle.std.specs.Borrow.{Bor}
 use Rattle.std.specs.declared.option.Option.{Option}
 use Rattle.std.specs.Io.KnownBytes.{Appends}
 use Rattle.link_port.specs.Faults.{Rises}
+use Rattle.link_port.specs.Flow.{AppendsFront}
 
 -- the texts, one after the other
 abbrev pub joined : List (Bor (List ℕ)) → List ℕ
 joined texts = flat_map (λ text. text.now) texts
-
--- bytes that are told grew by a front of `all`
-pub record AppendsFront (before now : Option (List ℕ)) (all : List ℕ) : Type 0 where
-  pub front : List ℕ
-  pub rest : List ℕ
-  pub whole : all ≡ front ++ rest
-  pub appended : Appends before now front
 
 -- all was appended; or a fault was counted, and a front of it was appended
 abbrev pub PutsAll : {T E : Type 0} → Option (List ℕ) → Option (List ℕ) → ℕ → ℕ → Result T E → List ℕ → Type 0

@@ -1,0 +1,4 @@
+pub mod RunLemmas
+pub mod WriteLemmas
+pub mod WentLemmas
+pub mod ServeLemmas

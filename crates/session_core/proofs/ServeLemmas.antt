@@ -1,0 +1,207 @@
+-- A session that is served piece by piece, to its stop.
+use Rattle.std.proofs.Common.{◌≡◌, ℕ, ◌+◌, ◌-◌, ◌<◌, ◌≤◌, ◌↔◌, List, [], ◌∷◌, ◌++◌, length, take, drop, Option, None, Some, IfSome, Result, Ok, refl, sym, ◌∙◌, ap, subst, append_assoc, length-append, zero-add, arith}
+use Rattle.std.proofs.lemmas.List.{append-nil, take-append-drop, take_rest}
+use Rattle.std.proofs.Math.Seq.{take-add}
+use Rattle.std.proofs.KnownBytes.{Appends-nil, Consumes-trans, Consumes-nil}
+use Rattle.std.specs.Io.KnownBytes.{Appends, Consumes}
+use Rattle.link_port.specs.Flow.{EndsWhereNothingIsLeft}
+use Rattle.call_form.specs.declared.Call.{Call}
+use Rattle.call_form.specs.declared.Outcome.{Outcome}
+use Rattle.session_core.specs.declared.phases.Phase.{Phase}
+use Rattle.session_core.specs.declared.phases.Phase.TheVariants as phase
+use Rattle.session_core.specs.declared.stops.Stop.{Stop}
+use Rattle.session_core.specs.declared.stops.Stop.TheVariants as stop
+use Rattle.session_core.specs.Limits.{most_bytes}
+use Rattle.session_core.specs.Run.{Ran, stopped, after, run, run_on, at_end, end_of}
+use Rattle.session_core.specs.Seen.{Seen, Moves, fresh, run_from}
+use Rattle.session_core.specs.Steps.{IsPaused, ended_in}
+use Rattle.session_core.specs.Served.{Told, ComesTo, Leaves, IsOfEnd, TakesAll, Served}
+use Rattle.session_core.specs.Went.{Went, Halts, IsHalt, IsReady, IsReadyIn}
+use Rattle.session_core.proofs.RunLemmas.{end-run, not_full}
+use Rattle.session_core.proofs.WentLemmas.{Went-trans, Went-fed, Went-Halts, Halts-more}
+
+-- the part of a piece that goes in next
+abbrev pub part_of : List ℕ → ℕ → ℕ → List ℕ
+part_of piece done n = take n (take (length piece - done) (drop done piece))
+
+pub part-next : (piece : List ℕ) (done n : ℕ) → take done piece ++ (part_of piece done n ++ []) ≡ take (done + n) piece
+part-next piece done n =
+    ap (λ (part : List ℕ). take done piece ++ part) (append-nil (part_of piece done n) ∙ ap (λ (rest : List ℕ). take n rest) (take_rest piece done))
+    ∙ sym (take-add done n piece)
+
+run-fresh : (limit : ℕ) (bytes : List ℕ) (outcomes : List Outcome) → run limit bytes outcomes ≡ run_from (fresh limit) bytes outcomes
+run-fresh limit bytes outcomes = ap (λ (total : ℕ). run_on limit total 0 bytes outcomes) (sym (zero-add (length bytes)))
+
+-- ---- where a session is ready for more
+
+paused-in : (here : Phase) (seen : Seen) → IsReadyIn here seen → seen.taken < most_bytes → IsPaused here seen
+paused-in phase.Calls seen handled more = (handled, more)
+paused-in (phase.Waiting oneway) seen handled more = absurd handled
+paused-in (phase.Raw raw) seen handled more = handled
+paused-in (phase.Stopped why) seen handled more = absurd handled
+
+pub paused-ready : (seen : Seen) → IsReady seen → IsPaused seen.phase seen
+paused-ready seen ready = paused-in seen.phase seen ready.handled ready.more
+
+end_of-end : (held : List ℕ) → IsOfEnd (end_of held)
+end_of-end [] = tt
+end_of-end (b ∷ held) = tt
+
+ended-in : (here : Phase) (seen : Seen) → IsReadyIn here seen → seen.taken < most_bytes → IsOfEnd (ended_in here seen)
+ended-in phase.Calls seen handled more = end_of-end seen.held
+ended-in (phase.Waiting oneway) seen handled more = absurd handled
+ended-in (phase.Raw raw) seen handled more = rw (not_full seen.taken stop.Upgraded more) tt
+ended-in (phase.Stopped why) seen handled more = absurd handled
+
+pub ended-ready : (seen : Seen) → IsReady seen → IsOfEnd (ended_in seen.phase seen)
+ended-ready seen ready = ended-in seen.phase seen ready.handled ready.more
+
+leaves-end : (why : Stop) → IsOfEnd why → Leaves why [] (stopped why)
+leaves-end stop.End is = (refl, refl)
+leaves-end (stop.Cut bytes) is = (refl, refl)
+leaves-end stop.Upgraded is = (refl, refl)
+leaves-end why is = absurd is
+
+-- all that was left was taken, where a take gave nothing
+pub takes-all : (why : Stop) (left mid : Option (List ℕ)) (fed : List ℕ) (n : ℕ) → n ≡ 0 → Consumes left mid fed →
+    IfSome mid (λ bytes. (n ≡ 0) ↔ (bytes ≡ [])) → TakesAll why left fed
+takes-all why left mid fed n none consumed ends = all-of why (whole left mid fed consumed ends) where
+  whole : (left mid : Option (List ℕ)) (fed : List ℕ) → Consumes left mid fed → IfSome mid (λ bytes. (n ≡ 0) ↔ (bytes ≡ [])) → IfSome left (λ bytes. fed ≡ bytes)
+  whole None mid fed consumed ends = tt
+  whole (Some xs) None fed consumed ends = absurd consumed
+  whole (Some xs) (Some ys) fed consumed ends = sym (append-nil fed) ∙ ap (λ (rest : List ℕ). fed ++ rest) (sym (ends.0 none)) ∙ sym consumed
+
+  all-of : (why : Stop) → IfSome left (λ bytes. fed ≡ bytes) → TakesAll why left fed
+  all-of stop.End all = all
+  all-of (stop.Cut bytes) all = all
+  all-of stop.Upgraded all = all
+  all-of why all = tt
+
+-- a take of no byte leaves all
+pub consumes-none : (left mid now : Option (List ℕ)) (fed into : List ℕ) (n : ℕ) → n ≡ 0 → Consumes left mid fed → Consumes mid now (take n into) → Consumes left now fed
+consumes-none left mid now fed into n none consumed more =
+    subst (λ (all : List ℕ). Consumes left now all) (append-nil fed)
+    (Consumes-trans left mid now fed [] consumed (subst (λ (k : ℕ). Consumes mid now (take k into)) none more))
+
+module _ {A : Type 0} (tells : A → Call → Outcome → A → Type 0) where
+  pub Went-part : (one two mid three : Seen) (piece : List ℕ) (done n : ℕ) (a b c : A) (k l m : Option (List ℕ)) →
+      Went tells one two (take done piece) a b k l → Moves two mid (part_of piece done n) [] [] [] → Went tells mid three [] b c l m →
+      Went tells one three (take (done + n) piece) a c k m
+  Went-part one two mid three piece done n a b c k l m went moves more =
+      subst (λ (fed : List ℕ). Went tells one three fed a c k m) (part-next piece done n)
+      (Went-trans tells one two three (take done piece) (part_of piece done n ++ []) a b c k l m went
+      (Went-trans tells two mid three (part_of piece done n) [] b b c l l m (Went-fed tells two mid (part_of piece done n) b l moves) more))
+
+  pub Halts-part : (one two mid : Seen) (piece : List ℕ) (done n : ℕ) (a b c : A) (k l m : Option (List ℕ)) (why : Stop) →
+      Went tells one two (take done piece) a b k l → Moves two mid (part_of piece done n) [] [] [] → Halts tells mid [] b c l m why →
+      Halts tells one piece a c k m why
+  Halts-part one two mid piece done n a b c k l m why went moves more =
+      subst (λ (fed : List ℕ). Halts tells one fed a c k m why) (take-append-drop (done + n) piece)
+      (Halts-more tells one (take (done + n) piece) (drop (done + n) piece) a c k m why
+      (subst (λ (fed : List ℕ). Halts tells one fed a c k m why) (part-next piece done n)
+      (Went-Halts tells one two (take done piece) (part_of piece done n ++ []) a b c k l m why went
+      (Went-Halts tells two mid (part_of piece done n) [] b b c l l m why (Went-fed tells two mid (part_of piece done n) b l moves) more))))
+
+  -- the run over all that went in, where the session is ready for more
+  went-run : (limit : ℕ) (now : Seen) (fed : List ℕ) (outcomes : List Outcome) (calls : List Call) (out : List ℕ) → Moves (fresh limit) now fed outcomes calls out →
+      now.taken < most_bytes → run limit fed outcomes ≡ after calls out (run_from now [] [])
+  went-run limit now fed outcomes calls out moves more =
+      let room : now.taken + 0 ≤ most_bytes = omega arith in
+      run-fresh limit fed outcomes
+      ∙ subst (λ (bytes : List ℕ). run_from (fresh limit) bytes outcomes ≡ after calls out (run_from now [] [])) (append-nil fed)
+        (subst (λ (all : List Outcome). run_from (fresh limit) (fed ++ []) all ≡ after calls out (run_from now [] [])) (append-nil outcomes) (moves.on [] [] room))
+
+  comes-ended : (limit : ℕ) (now : Seen) (fed : List ℕ) (outcomes : List Outcome) (calls : List Call) (out : List ℕ) (why end : Stop) →
+      Moves (fresh limit) now fed outcomes calls out → now.taken < most_bytes → run_from now [] [] ≡ stopped end → Leaves why [] (stopped end) →
+      ComesTo (run limit fed outcomes) calls out why
+  comes-ended limit now fed outcomes calls out why end moves more ends leaves = record {
+      unwritten = [];
+      later = stopped end;
+      is = went-run limit now fed outcomes calls out moves more ∙ ap (λ (ran : Ran). after calls out ran) ends
+          ∙ ap (λ (all : List ℕ). after calls all (stopped end)) (sym (append-nil out));
+      leaves = leaves;
+    }
+
+  most-fed : (limit : ℕ) (now : Seen) (fed : List ℕ) (outcomes : List Outcome) (calls : List Call) (out : List ℕ) → Moves (fresh limit) now fed outcomes calls out →
+      now.taken < most_bytes → length fed ≤ most_bytes
+  most-fed limit now fed outcomes calls out moves more = omega (arith, moves.counted)
+
+  -- the input ended
+  pub Served-end : (limit : ℕ) (now : Seen) (fed : List ℕ) (a b : A) (left left' k l : Option (List ℕ)) (why : Stop) →
+      Went tells (fresh limit) now fed a b k l → IsReady now → Consumes left left' fed → why ≡ ended_in now.phase now → TakesAll why left fed →
+      Served tells limit a b left left' k l why
+  Served-end limit now fed a b left left' k l why went ready consumed is all = record {
+      taken = fed;
+      calls = went.calls;
+      outcomes = went.outcomes;
+      out = went.out;
+      consumed = consumed;
+      most = most-fed limit now fed went.outcomes went.calls went.out went.moves ready.more;
+      told = went.told;
+      wrote = went.wrote;
+      comes = comes-ended limit now fed went.outcomes went.calls went.out why why went.moves ready.more
+          (end-run now [] (paused-ready now ready) ∙ ap stopped (sym is))
+          (leaves-end why (subst IsOfEnd (sym is) (ended-ready now ready)));
+      all = all;
+    }
+
+  -- the source failed
+  pub Served-read : (limit : ℕ) (now : Seen) (fed : List ℕ) (a b : A) (left left' k l : Option (List ℕ)) →
+      Went tells (fresh limit) now fed a b k l → IsReady now → Consumes left left' fed → Served tells limit a b left left' k l stop.ReadFault
+  Served-read limit now fed a b left left' k l went ready consumed = record {
+      taken = fed;
+      calls = went.calls;
+      outcomes = went.outcomes;
+      out = went.out;
+      consumed = consumed;
+      most = most-fed limit now fed went.outcomes went.calls went.out went.moves ready.more;
+      told = went.told;
+      wrote = went.wrote;
+      comes = comes-ended limit now fed went.outcomes went.calls went.out stop.ReadFault (ended_in now.phase now) went.moves ready.more
+          (end-run now [] (paused-ready now ready)) (refl, (ended_in now.phase now, ended-ready now ready, refl));
+      all = tt;
+    }
+
+  halt-all : (why : Stop) (left : Option (List ℕ)) (taken : List ℕ) → IsHalt why → TakesAll why left taken
+  halt-all stop.End left taken halt = absurd halt
+  halt-all (stop.Cut bytes) left taken halt = absurd halt
+  halt-all stop.Upgraded left taken halt = absurd halt
+  halt-all why left taken halt = tt
+
+  -- the session stopped
+  pub Served-halt : (limit : ℕ) (now : Seen) (fed piece : List ℕ) (a b c : A) (left mid left' k l m : Option (List ℕ)) (why : Stop) →
+      Went tells (fresh limit) now fed a b k l → Halts tells now piece b c l m why → IsHalt why → Consumes left mid fed → Consumes mid left' piece →
+      now.taken + length piece ≤ most_bytes → Served tells limit a c left left' k m why
+  Served-halt limit now fed piece a b c left mid left' k l m why went halts halt consumed more room =
+      let whole = Went-Halts tells (fresh limit) now fed piece a b c k l m why went halts in
+      let counted : length (fed ++ piece) ≤ most_bytes = omega (arith, went.moves.counted, length-append fed piece) in
+      let bound : 0 + length ((fed ++ piece) ++ []) ≤ most_bytes = rw (append-nil (fed ++ piece), zero-add (length (fed ++ piece))) counted in
+      record {
+        taken = fed ++ piece;
+        calls = whole.calls;
+        outcomes = whole.outcomes;
+        out = whole.out;
+        consumed = Consumes-trans left mid left' fed piece consumed more;
+        most = counted;
+        told = whole.told;
+        wrote = whole.wrote;
+        comes = subst (λ (ran : Ran). ComesTo ran whole.calls whole.out why) (sym (run-fresh limit (fed ++ piece) whole.outcomes))
+            (subst (λ (bytes : List ℕ). ComesTo (run_from (fresh limit) bytes whole.outcomes) whole.calls whole.out why) (append-nil (fed ++ piece))
+            (whole.on [] bound));
+        all = halt-all why left (fed ++ piece) halt;
+      }
+
+  -- memory ran out before the first byte
+  pub Served-nothing : (limit : ℕ) (a : A) (left k : Option (List ℕ)) → Served tells limit a a left left k k stop.Memory
+  Served-nothing limit a left k = record {
+      taken = []; calls = []; outcomes = []; out = [];
+      consumed = Consumes-nil left;
+      most = omega arith;
+      told = refl;
+      wrote = Appends-nil k;
+      comes = record { unwritten = []; later = run limit [] []; is = refl; leaves = tt };
+      all = tt;
+    }
+
+pub ready-fresh : (limit : ℕ) → IsReady (fresh limit)
+ready-fresh limit = record { handled = record { no_nul = tt; short = omega arith }; more = omega arith }

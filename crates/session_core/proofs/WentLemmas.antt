@@ -1,0 +1,296 @@
+-- Whole steps of a connection, put one behind the other.
+use Rattle.std.proofs.Common.{◌≡◌, ℕ, ◌+◌, ◌≤◌, List, [], ◌∷◌, ◌++◌, length, Option, None, Some, refl, sym, ◌∙◌, ap, subst, append_assoc, length-append, arith, inl, inr, ◌⊎◌, IfNone, IfSome}
+use Rattle.std.proofs.lemmas.List.{append-nil}
+use Rattle.std.proofs.KnownBytes.{Appends-nil, Appends-trans}
+use Rattle.std.specs.Io.KnownBytes.{Appends}
+use Rattle.call_form.specs.declared.Call.{Call}
+use Rattle.call_form.specs.declared.Outcome.{Outcome}
+use Rattle.session_core.specs.declared.phases.Phase.{Phase}
+use Rattle.session_core.specs.declared.phases.Phase.TheVariants as phase
+use Rattle.session_core.specs.declared.sessions.Turn.{Turn}
+use Rattle.session_core.specs.declared.sessions.Turn.TheVariants as turn
+use Rattle.session_core.specs.declared.stops.Stop.{Stop}
+use Rattle.session_core.specs.declared.stops.Stop.TheVariants as stop
+use Rattle.session_core.specs.Limits.{most_bytes}
+use Rattle.call_form.specs.declared.Raw.{Raw}
+use Rattle.call_form.specs.declared.Raw.TheVariants.{Echo, Discard}
+use Rattle.session_core.specs.Run.{Ran, stopped, after, texts, echoed, at_end, goes_on}
+use Rattle.session_core.specs.Seen.{Seen, Moves, run_from, later_of, run_in}
+use Rattle.session_core.specs.Steps.{Turns, RunsOn, StopsIn, StopsAt, IsOpen, IsRaw, echoed_in, replied_phase}
+use Rattle.link_port.specs.Flow.{AppendsFront}
+use Rattle.session_core.specs.Served.{Told, ComesTo, Leaves}
+use Rattle.session_core.specs.Went.{Went, Halts, Answered, BrokeOff, Unanswered, IsHalt, IsBreak, IsReady, IsReadyIn, IsRunning, Passed, PassedUntil}
+use Rattle.session_core.proofs.RunLemmas.{Moves-same, next-run}
+
+after-after : (calls more : List Call) (out wrote : List ℕ) (ran : Ran) →
+    after calls out (after more wrote ran) ≡ after (calls ++ more) (out ++ wrote) ran
+after-after calls more out wrote ran =
+    λ i. record { calls = sym (append_assoc calls more ran.calls) i; out = sym (append_assoc out wrote ran.out) i; stop = ran.stop }
+
+pub Moves-trans : (one two three : Seen) (fed more : List ℕ) (outcomes later : List Outcome) (calls others : List Call) (out wrote : List ℕ) →
+    Moves one two fed outcomes calls out → Moves two three more later others wrote →
+    Moves one three (fed ++ more) (outcomes ++ later) (calls ++ others) (out ++ wrote)
+Moves-trans one two three fed more outcomes later calls others out wrote first second = record {
+    counted = omega (arith, length-append fed more, first.counted, second.counted);
+    limit = second.limit ∙ first.limit;
+    on = λ bytes rest bound.
+        let room : two.taken + length (more ++ bytes) ≤ most_bytes = omega (arith, length-append more bytes, second.counted) in
+        rw (append_assoc fed more bytes, append_assoc outcomes later rest)
+        (first.on (more ++ bytes) (later ++ rest) room
+        ∙ ap (λ (ran : Ran). after calls out ran) (second.on bytes rest bound)
+        ∙ after-after calls others out wrote (run_from three bytes rest));
+  }
+
+ComesTo-after : (ran later : Ran) (calls others : List Call) (out wrote : List ℕ) (why : Stop) →
+    ran ≡ after calls out later → ComesTo later others wrote why → ComesTo ran (calls ++ others) (out ++ wrote) why
+ComesTo-after ran later calls others out wrote why e comes = record {
+    unwritten = comes.unwritten;
+    later = comes.later;
+    is = e ∙ ap (λ (r : Ran). after calls out r) comes.is ∙ after-after calls others out (wrote ++ comes.unwritten) comes.later
+        ∙ ap (λ (bytes : List ℕ). after (calls ++ others) bytes comes.later) (sym (append_assoc out wrote comes.unwritten));
+    leaves = comes.leaves;
+  }
+
+module _ {A : Type 0} (tells : A → Call → Outcome → A → Type 0) where
+  pub Told-append : (a b c : A) (calls others : List Call) (outcomes later : List Outcome) →
+      Told tells a calls outcomes b → Told tells b others later c → Told tells a (calls ++ others) (outcomes ++ later) c
+  Told-append a b c [] others [] later first second = subst (λ (from : A). Told tells from others later c) first second
+  Told-append a b c [] others (outcome ∷ outcomes) later first second = absurd first
+  Told-append a b c (call ∷ calls) others [] later first second = absurd first
+  Told-append a b c (call ∷ calls) others (outcome ∷ outcomes) later first second =
+      (first.0, first.1, Told-append first.0 b c calls others outcomes later first.2 second)
+
+  pub Went-same : (seen : Seen) (a : A) (written : Option (List ℕ)) → Went tells seen seen [] a a written written
+  Went-same seen a written = record { calls = []; outcomes = []; out = []; told = refl; wrote = Appends-nil written; moves = Moves-same seen }
+
+  pub Went-trans : (one two three : Seen) (fed more : List ℕ) (a b c : A) (k l m : Option (List ℕ)) →
+      Went tells one two fed a b k l → Went tells two three more b c l m → Went tells one three (fed ++ more) a c k m
+  Went-trans one two three fed more a b c k l m first second = record {
+      calls = first.calls ++ second.calls;
+      outcomes = first.outcomes ++ second.outcomes;
+      out = first.out ++ second.out;
+      told = Told-append a b c first.calls second.calls first.outcomes second.outcomes first.told second.told;
+      wrote = Appends-trans k l m first.out second.out first.wrote second.wrote;
+      moves = Moves-trans one two three fed more first.outcomes second.outcomes first.calls second.calls first.out second.out first.moves second.moves;
+    }
+
+  -- bytes that went in, and nothing else yet
+  pub Went-fed : (old new : Seen) (fed : List ℕ) (a : A) (written : Option (List ℕ)) → Moves old new fed [] [] [] → Went tells old new fed a a written written
+  Went-fed old new fed a written moves = record { calls = []; outcomes = []; out = []; told = refl; wrote = Appends-nil written; moves = moves }
+
+  pub Went-Halts : (one two : Seen) (fed more : List ℕ) (a b c : A) (k l m : Option (List ℕ)) (why : Stop) →
+      Went tells one two fed a b k l → Halts tells two more b c l m why → Halts tells one (fed ++ more) a c k m why
+  Went-Halts one two fed more a b c k l m why first second = record {
+      calls = first.calls ++ second.calls;
+      outcomes = first.outcomes ++ second.outcomes;
+      out = first.out ++ second.out;
+      told = Told-append a b c first.calls second.calls first.outcomes second.outcomes first.told second.told;
+      wrote = Appends-trans k l m first.out second.out first.wrote second.wrote;
+      on = λ bytes bound.
+          let room : two.taken + length (more ++ bytes) ≤ most_bytes =
+              omega (arith, first.moves.counted, length-append fed more, length-append (fed ++ more) bytes, length-append more bytes) in
+          rw (append_assoc fed more bytes)
+          (ComesTo-after _ (run_from two (more ++ bytes) second.outcomes) first.calls second.calls first.out second.out why
+          (first.moves.on (more ++ bytes) second.outcomes room) (second.on bytes room));
+    }
+
+  -- whatever more bytes come
+  pub Halts-more : (old : Seen) (fed more : List ℕ) (a b : A) (k l : Option (List ℕ)) (why : Stop) →
+      Halts tells old fed a b k l why → Halts tells old (fed ++ more) a b k l why
+  Halts-more old fed more a b k l why halts = record {
+      calls = halts.calls;
+      outcomes = halts.outcomes;
+      out = halts.out;
+      told = halts.told;
+      wrote = halts.wrote;
+      on = λ bytes bound. rw (append_assoc fed more bytes)
+          (halts.on (more ++ bytes) (rw (sym (append_assoc fed more bytes)) bound));
+    }
+
+-- ---- the stops of a session
+
+stops-halt : (seen : Seen) (why : Stop) → StopsAt seen why → IsHalt why
+stops-halt seen (stop.NotCall index fault) t = tt
+stops-halt seen (stop.TooLong index) t = tt
+stops-halt seen stop.Long t = tt
+stops-halt seen stop.Memory t = tt
+stops-halt seen why t = absurd t
+
+halt-in : (here : Phase) (old new : Seen) (why : Stop) → IsRunning here → StopsIn here old why new → IsHalt why
+halt-in phase.Calls old new why running t = stops-halt old why t.0
+halt-in (phase.Waiting oneway) old new why running t = absurd running
+halt-in (phase.Raw raw) old new why running t = rw t.0 tt
+halt-in (phase.Stopped before) old new why running t = absurd running
+
+pub halt-of : (old new : Seen) (why : Stop) → IsRunning old.phase → StopsIn old.phase old why new → IsHalt why
+halt-of old new why running t = halt-in old.phase old new why running t
+
+stopped-in : (here : Phase) (old new : Seen) (why : Stop) → IsRunning here → StopsIn here old why new → new.phase ≡ phase.Stopped why
+stopped-in phase.Calls old new why running t = ap (λ (s : Seen). s.phase) t.1
+stopped-in (phase.Waiting oneway) old new why running t = absurd running
+stopped-in (phase.Raw raw) old new why running t = ap (λ (s : Seen). s.phase) t.3
+stopped-in (phase.Stopped before) old new why running t = absurd running
+
+comes-stopped : (old new : Seen) (why : Stop) → new.phase ≡ phase.Stopped why → Moves old new [] [] [] [] →
+    (bytes : List ℕ) → old.taken + length bytes ≤ most_bytes → run_from old bytes [] ≡ stopped why
+comes-stopped old new why is moves bytes bound =
+    let room : new.taken + length bytes ≤ most_bytes = omega (arith, moves.counted) in
+    moves.on bytes [] room ∙ rw is refl
+
+comes-halt : (old new : Seen) (why : Stop) → IsHalt why → new.phase ≡ phase.Stopped why → RunsOn old (turn.Stop why) new →
+    (bytes : List ℕ) → old.taken + length bytes ≤ most_bytes → ComesTo (run_from old bytes []) [] [] why
+comes-halt old new (stop.NotCall index fault) halt is runs bytes bound =
+    record { unwritten = []; later = stopped (stop.NotCall index fault); is = comes-stopped old new _ is runs bytes bound; leaves = (refl, refl) }
+comes-halt old new (stop.TooLong index) halt is runs bytes bound =
+    record { unwritten = []; later = stopped (stop.TooLong index); is = comes-stopped old new _ is runs bytes bound; leaves = (refl, refl) }
+comes-halt old new stop.Long halt is runs bytes bound =
+    record { unwritten = []; later = stopped stop.Long; is = comes-stopped old new _ is runs bytes bound; leaves = (refl, refl) }
+comes-halt old new stop.WriteFault halt is runs bytes bound =
+    record { unwritten = []; later = stopped stop.WriteFault; is = comes-stopped old new _ is runs bytes bound; leaves = tt }
+comes-halt old new stop.Memory halt is runs bytes bound =
+    record { unwritten = []; later = run_from old bytes []; is = refl; leaves = tt }
+comes-halt old new why halt is runs bytes bound = absurd halt
+
+pub comes-stop : (old new : Seen) (why : Stop) → IsRunning old.phase → StopsIn old.phase old why new → RunsOn old (turn.Stop why) new →
+    (bytes : List ℕ) → old.taken + length bytes ≤ most_bytes → ComesTo (run_from old bytes []) [] [] why
+comes-stop old new why running t runs =
+    comes-halt old new why (halt-of old new why running t) (stopped-in old.phase old new why running t) runs
+
+-- ---- raw bytes
+
+echoed-append : (raw : Raw) (bytes more : List ℕ) → echoed raw (bytes ++ more) ≡ echoed raw bytes ++ echoed raw more
+echoed-append Echo bytes more = refl
+echoed-append Discard bytes more = refl
+
+broke-in : (here : Phase) (old : Seen) (k l : Option (List ℕ)) → old.phase ≡ here → IsRaw here → AppendsFront k l (echoed_in here old.held) →
+    PassedUntil old k l stop.WriteFault
+broke-in phase.Calls old k l is raw part = absurd raw
+broke-in (phase.Waiting oneway) old k l is raw part = absurd raw
+broke-in (phase.Raw raw) old k l is _ part = record {
+    out = part.front;
+    wrote = part.wrote;
+    on = λ bytes bound. record {
+        unwritten = part.rest ++ echoed raw bytes;
+        later = record { calls = []; out = []; stop = Some (at_end (old.taken + length bytes) stop.Upgraded) };
+        is = rw is (ap (λ (out : List ℕ). record { calls = []; out = out; stop = Some (at_end (old.taken + length bytes) stop.Upgraded) })
+            (echoed-append raw old.held bytes ∙ ap (λ (out : List ℕ). out ++ echoed raw bytes) part.whole ∙ append_assoc part.front part.rest (echoed raw bytes)
+            ∙ sym (append-nil (part.front ++ (part.rest ++ echoed raw bytes)))));
+        leaves = tt;
+      };
+  }
+broke-in (phase.Stopped why) old k l is raw part = absurd raw
+
+-- the sink failed while bytes were passed on
+pub PassedUntil-broke : (old : Seen) (k l : Option (List ℕ)) → IsRaw old.phase → AppendsFront k l (echoed_in old.phase old.held) →
+    PassedUntil old k l stop.WriteFault
+PassedUntil-broke old k l raw part = broke-in old.phase old k l refl raw part
+
+-- as many bytes were taken as a session takes
+pub PassedUntil-full : (old mid new : Seen) (k l : Option (List ℕ)) (out : List ℕ) (why : Stop) → Appends k l out → Moves old mid [] [] [] out →
+    IsRunning mid.phase → StopsIn mid.phase mid why new → RunsOn mid (turn.Stop why) new → PassedUntil old k l why
+PassedUntil-full old mid new k l out why wrote moves running t runs = record {
+    out = out;
+    wrote = wrote;
+    on = λ bytes bound.
+        let room : mid.taken + length bytes ≤ most_bytes = omega (arith, moves.counted) in
+        subst (λ (all : List ℕ). ComesTo (run_from old bytes []) [] all why) (append-nil out)
+        (ComesTo-after _ (run_from mid bytes []) [] [] out [] why (moves.on bytes [] room) (comes-stop mid new why running t runs bytes room));
+  }
+
+-- ---- the steps of one loop over the calls held
+
+module _ {A : Type 0} (tells : A → Call → Outcome → A → Type 0) where
+  -- a call was read, and answered
+  pub Went-call : (one two three : Seen) (call : Call) (a b c : A) (k l m : Option (List ℕ)) → Went tells one two [] a b k l →
+      (mid : Seen) → Moves two mid [] [] (call ∷ []) [] → Answered tells mid three call b c l m → Went tells one three [] a c k m
+  Went-call one two three call a b c k l m went mid read answered =
+      Went-trans tells one two three [] [] a b c k l m went (record {
+        calls = call ∷ [];
+        outcomes = answered.outcome ∷ [];
+        out = texts call.oneway answered.outcome;
+        told = (c, answered.told, refl);
+        wrote = answered.wrote;
+        moves = Moves-trans two mid three [] [] [] (answered.outcome ∷ []) (call ∷ []) [] [] (texts call.oneway answered.outcome) read answered.moves;
+      })
+
+  -- the session stopped between two calls
+  pub Halts-stop : (one two new : Seen) (a b : A) (k l : Option (List ℕ)) (why : Stop) → Went tells one two [] a b k l →
+      IsRunning two.phase → StopsIn two.phase two why new → RunsOn two (turn.Stop why) new → Halts tells one [] a b k l why
+  Halts-stop one two new a b k l why went running t runs =
+      Went-Halts tells one two [] [] a b b k l l why went (record {
+        calls = []; outcomes = []; out = []; told = refl; wrote = Appends-nil l;
+        on = λ bytes bound. comes-stop two new why running t runs bytes bound;
+      })
+
+  -- raw bytes were passed on
+  pub Went-passed : (one two three : Seen) (a b : A) (k l m : Option (List ℕ)) → Went tells one two [] a b k l → Passed two three l m →
+      Went tells one three [] a b k m
+  Went-passed one two three a b k l m went passed =
+      Went-trans tells one two three [] [] a b b k l m went (record {
+        calls = []; outcomes = []; out = passed.out; told = refl; wrote = passed.wrote; moves = passed.moves;
+      })
+
+  pub Halts-passed : (one two : Seen) (a b : A) (k l m : Option (List ℕ)) (why : Stop) → Went tells one two [] a b k l → PassedUntil two l m why →
+      Halts tells one [] a b k m why
+  Halts-passed one two a b k l m why went until =
+      Went-Halts tells one two [] [] a b b k l m why went (record {
+        calls = []; outcomes = []; out = until.out; told = refl; wrote = until.wrote; on = until.on;
+      })
+
+  leaves-break : (why : Stop) (unwritten : List ℕ) (later : Ran) → IsBreak why → Leaves why unwritten later
+  leaves-break stop.WriteFault unwritten later is = tt
+  leaves-break stop.Memory unwritten later is = tt
+  leaves-break why unwritten later is = absurd is
+
+  broke-off : (two mid : Seen) (call : Call) (b c : A) (l m : Option (List ℕ)) (why : Stop) → Moves two mid [] [] (call ∷ []) [] →
+      mid.phase ≡ phase.Waiting call.oneway → IsBreak why → BrokeOff tells call b c l m → Halts tells two [] b c l m why
+  broke-off two mid call b c l m why read waits is broke = record {
+      calls = call ∷ [];
+      outcomes = broke.outcome ∷ [];
+      out = broke.part.front;
+      told = (c, broke.told, refl);
+      wrote = broke.part.wrote;
+      on = λ bytes bound.
+          let room : mid.taken + length bytes ≤ most_bytes = omega (arith, read.counted) in
+          let later = goes_on (later_of mid bytes) broke.outcome.raw [] in
+          record {
+            unwritten = broke.part.rest;
+            later = later;
+            is = read.on bytes (broke.outcome ∷ []) room
+                ∙ ap (λ (here : Phase). after (call ∷ []) [] (run_in here (later_of mid bytes) (broke.outcome ∷ []))) waits
+                ∙ ap (λ (out : List ℕ). after (call ∷ []) out later) broke.part.whole;
+            leaves = leaves-break why _ _ is;
+          };
+    }
+
+  unanswered : (two : Seen) (b c : A) (l m : Option (List ℕ)) (why : Stop) → Unanswered tells b c l m why → Halts tells two [] b c l m why
+  unanswered two b c l m stop.Memory none = record {
+      calls = []; outcomes = []; out = [];
+      told = none.0;
+      wrote = subst (λ (now : Option (List ℕ)). Appends l now []) (sym none.1) (Appends-nil l);
+      on = λ bytes bound. record { unwritten = []; later = run_from two bytes []; is = refl; leaves = tt };
+    }
+  unanswered two b c l m why none = absurd none
+
+  -- a call was read, and not answered, or its replies not all written
+  pub Halts-call : (one two mid : Seen) (call : Call) (a b c : A) (k l m : Option (List ℕ)) (why : Stop) → Went tells one two [] a b k l →
+      Moves two mid [] [] (call ∷ []) [] → mid.phase ≡ phase.Waiting call.oneway → IsBreak why →
+      BrokeOff tells call b c l m ⊎ Unanswered tells b c l m why → Halts tells one [] a c k m why
+  Halts-call one two mid call a b c k l m why went read waits is (inl broke) =
+      Went-Halts tells one two [] [] a b c k l m why went (broke-off two mid call b c l m why read waits is broke)
+  Halts-call one two mid call a b c k l m why went read waits is (inr none) =
+      Went-Halts tells one two [] [] a b c k l m why went (unanswered two b c l m why none)
+
+  pub Went-passed_if : (one two three : Seen) (a b : A) (k l m : Option (List ℕ)) (result : Option Stop) → Went tells one two [] a b k l →
+      IfNone result (Passed two three l m) → IfNone result (Went tells one three [] a b k m)
+  Went-passed_if one two three a b k l m None went passed = Went-passed one two three a b k l m went passed
+  Went-passed_if one two three a b k l m (Some why) went passed = tt
+
+  pub Halts-passed_if : (one two : Seen) (a b : A) (k l m : Option (List ℕ)) (result : Option Stop) → Went tells one two [] a b k l →
+      IfSome result (PassedUntil two l m) → IfSome result (Halts tells one [] a b k m)
+  Halts-passed_if one two a b k l m None went until = tt
+  Halts-passed_if one two a b k l m (Some why) went until = Halts-passed one two a b k l m why went until
+
+pub running-replied : (raw : Option Raw) → IsRunning (replied_phase raw)
+running-replied None = tt
+running-replied (Some raw) = tt

@@ -1,0 +1,10 @@
+pub mod Limits
+pub mod Run
+pub mod Seen
+pub mod Steps
+pub mod Writes
+pub mod Served
+pub mod Went
+pub mod Kept
+pub mod Messages
+pub mod Outcomes
