@@ -121,10 +121,10 @@ Moves-stopped : (old new : Seen) (why : Stop) → new.taken ≡ old.taken → ne
     ((bytes : List ℕ) (more : List Outcome) → old.taken + length bytes ≤ most_bytes → run_from old bytes more ≡ stopped why) →
     Moves old new [] [] [] []
 Moves-stopped old new why taken limit is stops = record {
-    counted = omega arith;
-    limit = limit;
-    on = λ bytes more bound. let fits : old.taken + length bytes ≤ most_bytes = omega arith in rw is (stops bytes more fits);
-  }
+  counted = omega arith;
+  limit = limit;
+  on = λ bytes more bound. let fits : old.taken + length bytes ≤ most_bytes = omega arith in rw is (stops bytes more fits);
+}
 
 RunsOn-moves : (old new : Seen) (why : Stop) → Moves old new [] [] [] [] → RunsOn old (turn.Stop why) new
 RunsOn-moves old new stop.Memory moves = tt
@@ -143,15 +143,15 @@ stop-in_calls : (old new : Seen) (why : Stop) → old.phase ≡ phase.Calls → 
 stop-in_calls old new (stop.NotCall index fault) calls t taken limit is =
     Moves-stopped old new (stop.NotCall index fault) taken limit is
     (λ bytes more bound. rw (calls, t.2.front, append_assoc (ended t.0) t.1 bytes, t.3)
-      (run_on-fault old.limit (old.taken + length bytes) old.index t.0 (t.1 ++ bytes) fault more t.2.no_nul t.2.short t.4))
+    (run_on-fault old.limit (old.taken + length bytes) old.index t.0 (t.1 ++ bytes) fault more t.2.no_nul t.2.short t.4))
 stop-in_calls old new (stop.TooLong index) calls t taken limit is =
     Moves-stopped old new (stop.TooLong index) taken limit is
     (λ bytes more bound. rw (calls, t.2) (run_on-too_long old.limit (old.taken + length bytes) old.index old.held bytes more t.0 t.1))
 stop-in_calls old new stop.Long calls t taken limit is =
     Moves-stopped old new stop.Long taken limit is
     (λ bytes more bound.
-      let none = no_more old.taken bytes t.1 bound in
-      rw (calls, none, append-nil, t.1) (run_on-open old.limit (most_bytes + 0) old.index old.held more t.0.no_nul t.0.short))
+    let none = no_more old.taken bytes t.1 bound in
+    rw (calls, none, append-nil, t.1) (run_on-open old.limit (most_bytes + 0) old.index old.held more t.0.no_nul t.0.short))
 stop-in_calls old new stop.Memory calls t taken limit is = tt
 stop-in_calls old new why calls t taken limit is = absurd t
 
@@ -166,8 +166,8 @@ stop-run (phase.Waiting oneway) old new why e t = absurd t
 stop-run (phase.Raw raw) old new why e t =
     RunsOn-moves old new why (Moves-stopped old new why (ap (λ (s : Seen). s.taken) t.3) (ap (λ (s : Seen). s.limit) t.3) (ap (λ (s : Seen). s.phase) t.3)
     (λ bytes more bound.
-      let none = no_more old.taken bytes t.1 bound in
-      rw (e, none, t.2, t.1, t.0, echoed-nil raw) refl))
+    let none = no_more old.taken bytes t.1 bound in
+    rw (e, none, t.2, t.1, t.0, echoed-nil raw) refl))
 stop-run (phase.Stopped before) old new why e t = RunsOn-moves old new why (Moves-kept old new t.1)
 
 pub next-run : (old : Seen) (turn : Turn) (new : Seen) → Turns old turn new → RunsOn old turn new

@@ -109,18 +109,18 @@ module _ {A : Type 0} (tells : A → Call → Outcome → A → Type 0) where
       let room : now.taken + 0 ≤ most_bytes = omega arith in
       run-fresh limit fed outcomes
       ∙ subst (λ (bytes : List ℕ). run_from (fresh limit) bytes outcomes ≡ after calls out (run_from now [] [])) (append-nil fed)
-        (subst (λ (all : List Outcome). run_from (fresh limit) (fed ++ []) all ≡ after calls out (run_from now [] [])) (append-nil outcomes) (moves.on [] [] room))
+      (subst (λ (all : List Outcome). run_from (fresh limit) (fed ++ []) all ≡ after calls out (run_from now [] [])) (append-nil outcomes) (moves.on [] [] room))
 
   comes-ended : (limit : ℕ) (now : Seen) (fed : List ℕ) (outcomes : List Outcome) (calls : List Call) (out : List ℕ) (why end : Stop) →
       Moves (fresh limit) now fed outcomes calls out → now.taken < most_bytes → run_from now [] [] ≡ stopped end → Leaves why [] (stopped end) →
       ComesTo (run limit fed outcomes) calls out why
   comes-ended limit now fed outcomes calls out why end moves more ends leaves = record {
-      unwritten = [];
-      later = stopped end;
-      is = went-run limit now fed outcomes calls out moves more ∙ ap (λ (ran : Ran). after calls out ran) ends
-          ∙ ap (λ (all : List ℕ). after calls all (stopped end)) (sym (append-nil out));
-      leaves = leaves;
-    }
+    unwritten = [];
+    later = stopped end;
+    is = went-run limit now fed outcomes calls out moves more ∙ ap (λ (ran : Ran). after calls out ran) ends
+        ∙ ap (λ (all : List ℕ). after calls all (stopped end)) (sym (append-nil out));
+    leaves = leaves;
+  }
 
   most-fed : (limit : ℕ) (now : Seen) (fed : List ℕ) (outcomes : List Outcome) (calls : List Call) (out : List ℕ) → Moves (fresh limit) now fed outcomes calls out →
       now.taken < most_bytes → length fed ≤ most_bytes
@@ -131,36 +131,36 @@ module _ {A : Type 0} (tells : A → Call → Outcome → A → Type 0) where
       Went tells (fresh limit) now fed a b k l → IsReady now → Consumes left left' fed → why ≡ ended_in now.phase now → TakesAll why left fed →
       Served tells limit a b left left' k l why
   Served-end limit now fed a b left left' k l why went ready consumed is all = record {
-      taken = fed;
-      calls = went.calls;
-      outcomes = went.outcomes;
-      out = went.out;
-      consumed = consumed;
-      most = most-fed limit now fed went.outcomes went.calls went.out went.moves ready.more;
-      told = went.told;
-      wrote = went.wrote;
-      comes = comes-ended limit now fed went.outcomes went.calls went.out why why went.moves ready.more
-          (end-run now [] (paused-ready now ready) ∙ ap stopped (sym is))
-          (leaves-end why (subst IsOfEnd (sym is) (ended-ready now ready)));
-      all = all;
-    }
+    taken = fed;
+    calls = went.calls;
+    outcomes = went.outcomes;
+    out = went.out;
+    consumed = consumed;
+    most = most-fed limit now fed went.outcomes went.calls went.out went.moves ready.more;
+    told = went.told;
+    wrote = went.wrote;
+    comes = comes-ended limit now fed went.outcomes went.calls went.out why why went.moves ready.more
+        (end-run now [] (paused-ready now ready) ∙ ap stopped (sym is))
+        (leaves-end why (subst IsOfEnd (sym is) (ended-ready now ready)));
+    all = all;
+  }
 
   -- the source failed
   pub Served-read : (limit : ℕ) (now : Seen) (fed : List ℕ) (a b : A) (left left' k l : Option (List ℕ)) →
       Went tells (fresh limit) now fed a b k l → IsReady now → Consumes left left' fed → Served tells limit a b left left' k l stop.ReadFault
   Served-read limit now fed a b left left' k l went ready consumed = record {
-      taken = fed;
-      calls = went.calls;
-      outcomes = went.outcomes;
-      out = went.out;
-      consumed = consumed;
-      most = most-fed limit now fed went.outcomes went.calls went.out went.moves ready.more;
-      told = went.told;
-      wrote = went.wrote;
-      comes = comes-ended limit now fed went.outcomes went.calls went.out stop.ReadFault (ended_in now.phase now) went.moves ready.more
-          (end-run now [] (paused-ready now ready)) (refl, (ended_in now.phase now, ended-ready now ready, refl));
-      all = tt;
-    }
+    taken = fed;
+    calls = went.calls;
+    outcomes = went.outcomes;
+    out = went.out;
+    consumed = consumed;
+    most = most-fed limit now fed went.outcomes went.calls went.out went.moves ready.more;
+    told = went.told;
+    wrote = went.wrote;
+    comes = comes-ended limit now fed went.outcomes went.calls went.out stop.ReadFault (ended_in now.phase now) went.moves ready.more
+        (end-run now [] (paused-ready now ready)) (refl, (ended_in now.phase now, ended-ready now ready, refl));
+    all = tt;
+  }
 
   halt-all : (why : Stop) (left : Option (List ℕ)) (taken : List ℕ) → IsHalt why → TakesAll why left taken
   halt-all stop.End left taken halt = absurd halt
@@ -194,14 +194,17 @@ module _ {A : Type 0} (tells : A → Call → Outcome → A → Type 0) where
   -- memory ran out before the first byte
   pub Served-nothing : (limit : ℕ) (a : A) (left k : Option (List ℕ)) → Served tells limit a a left left k k stop.Memory
   Served-nothing limit a left k = record {
-      taken = []; calls = []; outcomes = []; out = [];
-      consumed = Consumes-nil left;
-      most = omega arith;
-      told = refl;
-      wrote = Appends-nil k;
-      comes = record { unwritten = []; later = run limit [] []; is = refl; leaves = tt };
-      all = tt;
-    }
+    taken = [];
+    calls = [];
+    outcomes = [];
+    out = [];
+    consumed = Consumes-nil left;
+    most = omega arith;
+    told = refl;
+    wrote = Appends-nil k;
+    comes = record { unwritten = []; later = run limit [] []; is = refl; leaves = tt };
+    all = tt;
+  }
 
 pub ready-fresh : (limit : ℕ) → IsReady (fresh limit)
 ready-fresh limit = record { handled = record { no_nul = tt; short = omega arith }; more = omega arith }

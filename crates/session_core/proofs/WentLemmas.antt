@@ -31,25 +31,25 @@ pub Moves-trans : (one two three : Seen) (fed more : List ℕ) (outcomes later :
     Moves one two fed outcomes calls out → Moves two three more later others wrote →
     Moves one three (fed ++ more) (outcomes ++ later) (calls ++ others) (out ++ wrote)
 Moves-trans one two three fed more outcomes later calls others out wrote first second = record {
-    counted = omega (arith, length-append fed more, first.counted, second.counted);
-    limit = second.limit ∙ first.limit;
-    on = λ bytes rest bound.
-        let room : two.taken + length (more ++ bytes) ≤ most_bytes = omega (arith, length-append more bytes, second.counted) in
-        rw (append_assoc fed more bytes, append_assoc outcomes later rest)
-        (first.on (more ++ bytes) (later ++ rest) room
-        ∙ ap (λ (ran : Ran). after calls out ran) (second.on bytes rest bound)
-        ∙ after-after calls others out wrote (run_from three bytes rest));
-  }
+  counted = omega (arith, length-append fed more, first.counted, second.counted);
+  limit = second.limit ∙ first.limit;
+  on = λ bytes rest bound.
+      let room : two.taken + length (more ++ bytes) ≤ most_bytes = omega (arith, length-append more bytes, second.counted) in
+      rw (append_assoc fed more bytes, append_assoc outcomes later rest)
+      (first.on (more ++ bytes) (later ++ rest) room
+      ∙ ap (λ (ran : Ran). after calls out ran) (second.on bytes rest bound)
+      ∙ after-after calls others out wrote (run_from three bytes rest));
+}
 
 ComesTo-after : (ran later : Ran) (calls others : List Call) (out wrote : List ℕ) (why : Stop) →
     ran ≡ after calls out later → ComesTo later others wrote why → ComesTo ran (calls ++ others) (out ++ wrote) why
 ComesTo-after ran later calls others out wrote why e comes = record {
-    unwritten = comes.unwritten;
-    later = comes.later;
-    is = e ∙ ap (λ (r : Ran). after calls out r) comes.is ∙ after-after calls others out (wrote ++ comes.unwritten) comes.later
-        ∙ ap (λ (bytes : List ℕ). after (calls ++ others) bytes comes.later) (sym (append_assoc out wrote comes.unwritten));
-    leaves = comes.leaves;
-  }
+  unwritten = comes.unwritten;
+  later = comes.later;
+  is = e ∙ ap (λ (r : Ran). after calls out r) comes.is ∙ after-after calls others out (wrote ++ comes.unwritten) comes.later
+      ∙ ap (λ (bytes : List ℕ). after (calls ++ others) bytes comes.later) (sym (append_assoc out wrote comes.unwritten));
+  leaves = comes.leaves;
+}
 
 module _ {A : Type 0} (tells : A → Call → Outcome → A → Type 0) where
   pub Told-append : (a b c : A) (calls others : List Call) (outcomes later : List Outcome) →
@@ -66,13 +66,13 @@ module _ {A : Type 0} (tells : A → Call → Outcome → A → Type 0) where
   pub Went-trans : (one two three : Seen) (fed more : List ℕ) (a b c : A) (k l m : Option (List ℕ)) →
       Went tells one two fed a b k l → Went tells two three more b c l m → Went tells one three (fed ++ more) a c k m
   Went-trans one two three fed more a b c k l m first second = record {
-      calls = first.calls ++ second.calls;
-      outcomes = first.outcomes ++ second.outcomes;
-      out = first.out ++ second.out;
-      told = Told-append a b c first.calls second.calls first.outcomes second.outcomes first.told second.told;
-      wrote = Appends-trans k l m first.out second.out first.wrote second.wrote;
-      moves = Moves-trans one two three fed more first.outcomes second.outcomes first.calls second.calls first.out second.out first.moves second.moves;
-    }
+    calls = first.calls ++ second.calls;
+    outcomes = first.outcomes ++ second.outcomes;
+    out = first.out ++ second.out;
+    told = Told-append a b c first.calls second.calls first.outcomes second.outcomes first.told second.told;
+    wrote = Appends-trans k l m first.out second.out first.wrote second.wrote;
+    moves = Moves-trans one two three fed more first.outcomes second.outcomes first.calls second.calls first.out second.out first.moves second.moves;
+  }
 
   -- bytes that went in, and nothing else yet
   pub Went-fed : (old new : Seen) (fed : List ℕ) (a : A) (written : Option (List ℕ)) → Moves old new fed [] [] [] → Went tells old new fed a a written written
@@ -81,31 +81,31 @@ module _ {A : Type 0} (tells : A → Call → Outcome → A → Type 0) where
   pub Went-Halts : (one two : Seen) (fed more : List ℕ) (a b c : A) (k l m : Option (List ℕ)) (why : Stop) →
       Went tells one two fed a b k l → Halts tells two more b c l m why → Halts tells one (fed ++ more) a c k m why
   Went-Halts one two fed more a b c k l m why first second = record {
-      calls = first.calls ++ second.calls;
-      outcomes = first.outcomes ++ second.outcomes;
-      out = first.out ++ second.out;
-      told = Told-append a b c first.calls second.calls first.outcomes second.outcomes first.told second.told;
-      wrote = Appends-trans k l m first.out second.out first.wrote second.wrote;
-      on = λ bytes bound.
-          let room : two.taken + length (more ++ bytes) ≤ most_bytes =
-              omega (arith, first.moves.counted, length-append fed more, length-append (fed ++ more) bytes, length-append more bytes) in
-          rw (append_assoc fed more bytes)
-          (ComesTo-after _ (run_from two (more ++ bytes) second.outcomes) first.calls second.calls first.out second.out why
-          (first.moves.on (more ++ bytes) second.outcomes room) (second.on bytes room));
-    }
+    calls = first.calls ++ second.calls;
+    outcomes = first.outcomes ++ second.outcomes;
+    out = first.out ++ second.out;
+    told = Told-append a b c first.calls second.calls first.outcomes second.outcomes first.told second.told;
+    wrote = Appends-trans k l m first.out second.out first.wrote second.wrote;
+    on = λ bytes bound.
+        let room : two.taken + length (more ++ bytes) ≤ most_bytes =
+        omega (arith, first.moves.counted, length-append fed more, length-append (fed ++ more) bytes, length-append more bytes) in
+        rw (append_assoc fed more bytes)
+        (ComesTo-after _ (run_from two (more ++ bytes) second.outcomes) first.calls second.calls first.out second.out why
+        (first.moves.on (more ++ bytes) second.outcomes room) (second.on bytes room));
+  }
 
   -- whatever more bytes come
   pub Halts-more : (old : Seen) (fed more : List ℕ) (a b : A) (k l : Option (List ℕ)) (why : Stop) →
       Halts tells old fed a b k l why → Halts tells old (fed ++ more) a b k l why
   Halts-more old fed more a b k l why halts = record {
-      calls = halts.calls;
-      outcomes = halts.outcomes;
-      out = halts.out;
-      told = halts.told;
-      wrote = halts.wrote;
-      on = λ bytes bound. rw (append_assoc fed more bytes)
-          (halts.on (more ++ bytes) (rw (sym (append_assoc fed more bytes)) bound));
-    }
+    calls = halts.calls;
+    outcomes = halts.outcomes;
+    out = halts.out;
+    told = halts.told;
+    wrote = halts.wrote;
+    on = λ bytes bound. rw (append_assoc fed more bytes)
+        (halts.on (more ++ bytes) (rw (sym (append_assoc fed more bytes)) bound));
+  }
 
 -- ---- the stops of a session
 
@@ -167,17 +167,17 @@ broke-in : (here : Phase) (old : Seen) (k l : Option (List ℕ)) → old.phase �
 broke-in phase.Calls old k l is raw part = absurd raw
 broke-in (phase.Waiting oneway) old k l is raw part = absurd raw
 broke-in (phase.Raw raw) old k l is _ part = record {
-    out = part.front;
-    wrote = part.wrote;
-    on = λ bytes bound. record {
-        unwritten = part.rest ++ echoed raw bytes;
-        later = record { calls = []; out = []; stop = Some (at_end (old.taken + length bytes) stop.Upgraded) };
-        is = rw is (ap (λ (out : List ℕ). record { calls = []; out = out; stop = Some (at_end (old.taken + length bytes) stop.Upgraded) })
-            (echoed-append raw old.held bytes ∙ ap (λ (out : List ℕ). out ++ echoed raw bytes) part.whole ∙ append_assoc part.front part.rest (echoed raw bytes)
-            ∙ sym (append-nil (part.front ++ (part.rest ++ echoed raw bytes)))));
-        leaves = tt;
-      };
-  }
+  out = part.front;
+  wrote = part.wrote;
+  on = λ bytes bound. record {
+    unwritten = part.rest ++ echoed raw bytes;
+    later = record { calls = []; out = []; stop = Some (at_end (old.taken + length bytes) stop.Upgraded) };
+    is = rw is (ap (λ (out : List ℕ). record { calls = []; out = out; stop = Some (at_end (old.taken + length bytes) stop.Upgraded) })
+        (echoed-append raw old.held bytes ∙ ap (λ (out : List ℕ). out ++ echoed raw bytes) part.whole ∙ append_assoc part.front part.rest (echoed raw bytes)
+        ∙ sym (append-nil (part.front ++ (part.rest ++ echoed raw bytes)))));
+    leaves = tt;
+  };
+}
 broke-in (phase.Stopped why) old k l is raw part = absurd raw
 
 -- the sink failed while bytes were passed on
@@ -189,13 +189,13 @@ PassedUntil-broke old k l raw part = broke-in old.phase old k l refl raw part
 pub PassedUntil-full : (old mid new : Seen) (k l : Option (List ℕ)) (out : List ℕ) (why : Stop) → Appends k l out → Moves old mid [] [] [] out →
     IsRunning mid.phase → StopsIn mid.phase mid why new → RunsOn mid (turn.Stop why) new → PassedUntil old k l why
 PassedUntil-full old mid new k l out why wrote moves running t runs = record {
-    out = out;
-    wrote = wrote;
-    on = λ bytes bound.
-        let room : mid.taken + length bytes ≤ most_bytes = omega (arith, moves.counted) in
-        subst (λ (all : List ℕ). ComesTo (run_from old bytes []) [] all why) (append-nil out)
-        (ComesTo-after _ (run_from mid bytes []) [] [] out [] why (moves.on bytes [] room) (comes-stop mid new why running t runs bytes room));
-  }
+  out = out;
+  wrote = wrote;
+  on = λ bytes bound.
+      let room : mid.taken + length bytes ≤ most_bytes = omega (arith, moves.counted) in
+      subst (λ (all : List ℕ). ComesTo (run_from old bytes []) [] all why) (append-nil out)
+      (ComesTo-after _ (run_from mid bytes []) [] [] out [] why (moves.on bytes [] room) (comes-stop mid new why running t runs bytes room));
+}
 
 -- ---- the steps of one loop over the calls held
 
@@ -218,7 +218,11 @@ module _ {A : Type 0} (tells : A → Call → Outcome → A → Type 0) where
       IsRunning two.phase → StopsIn two.phase two why new → RunsOn two (turn.Stop why) new → Halts tells one [] a b k l why
   Halts-stop one two new a b k l why went running t runs =
       Went-Halts tells one two [] [] a b b k l l why went (record {
-        calls = []; outcomes = []; out = []; told = refl; wrote = Appends-nil l;
+        calls = [];
+        outcomes = [];
+        out = [];
+        told = refl;
+        wrote = Appends-nil l;
         on = λ bytes bound. comes-stop two new why running t runs bytes bound;
       })
 
@@ -227,14 +231,24 @@ module _ {A : Type 0} (tells : A → Call → Outcome → A → Type 0) where
       Went tells one three [] a b k m
   Went-passed one two three a b k l m went passed =
       Went-trans tells one two three [] [] a b b k l m went (record {
-        calls = []; outcomes = []; out = passed.out; told = refl; wrote = passed.wrote; moves = passed.moves;
+        calls = [];
+        outcomes = [];
+        out = passed.out;
+        told = refl;
+        wrote = passed.wrote;
+        moves = passed.moves;
       })
 
   pub Halts-passed : (one two : Seen) (a b : A) (k l m : Option (List ℕ)) (why : Stop) → Went tells one two [] a b k l → PassedUntil two l m why →
       Halts tells one [] a b k m why
   Halts-passed one two a b k l m why went until =
       Went-Halts tells one two [] [] a b b k l m why went (record {
-        calls = []; outcomes = []; out = until.out; told = refl; wrote = until.wrote; on = until.on;
+        calls = [];
+        outcomes = [];
+        out = until.out;
+        told = refl;
+        wrote = until.wrote;
+        on = until.on;
       })
 
   leaves-break : (why : Stop) (unwritten : List ℕ) (later : Ran) → IsBreak why → Leaves why unwritten later
@@ -245,31 +259,33 @@ module _ {A : Type 0} (tells : A → Call → Outcome → A → Type 0) where
   broke-off : (two mid : Seen) (call : Call) (b c : A) (l m : Option (List ℕ)) (why : Stop) → Moves two mid [] [] (call ∷ []) [] →
       mid.phase ≡ phase.Waiting call.oneway → IsBreak why → BrokeOff tells call b c l m → Halts tells two [] b c l m why
   broke-off two mid call b c l m why read waits is broke = record {
-      calls = call ∷ [];
-      outcomes = broke.outcome ∷ [];
-      out = broke.part.front;
-      told = (c, broke.told, refl);
-      wrote = broke.part.wrote;
-      on = λ bytes bound.
-          let room : mid.taken + length bytes ≤ most_bytes = omega (arith, read.counted) in
-          let later = goes_on (later_of mid bytes) broke.outcome.raw [] in
-          record {
-            unwritten = broke.part.rest;
-            later = later;
-            is = read.on bytes (broke.outcome ∷ []) room
-                ∙ ap (λ (here : Phase). after (call ∷ []) [] (run_in here (later_of mid bytes) (broke.outcome ∷ []))) waits
-                ∙ ap (λ (out : List ℕ). after (call ∷ []) out later) broke.part.whole;
-            leaves = leaves-break why _ _ is;
-          };
-    }
+    calls = call ∷ [];
+    outcomes = broke.outcome ∷ [];
+    out = broke.part.front;
+    told = (c, broke.told, refl);
+    wrote = broke.part.wrote;
+    on = λ bytes bound.
+        let room : mid.taken + length bytes ≤ most_bytes = omega (arith, read.counted) in
+        let later = goes_on (later_of mid bytes) broke.outcome.raw [] in
+        record {
+          unwritten = broke.part.rest;
+          later = later;
+          is = read.on bytes (broke.outcome ∷ []) room
+              ∙ ap (λ (here : Phase). after (call ∷ []) [] (run_in here (later_of mid bytes) (broke.outcome ∷ []))) waits
+              ∙ ap (λ (out : List ℕ). after (call ∷ []) out later) broke.part.whole;
+          leaves = leaves-break why _ _ is;
+        };
+  }
 
   unanswered : (two : Seen) (b c : A) (l m : Option (List ℕ)) (why : Stop) → Unanswered tells b c l m why → Halts tells two [] b c l m why
   unanswered two b c l m stop.Memory none = record {
-      calls = []; outcomes = []; out = [];
-      told = none.0;
-      wrote = subst (λ (now : Option (List ℕ)). Appends l now []) (sym none.1) (Appends-nil l);
-      on = λ bytes bound. record { unwritten = []; later = run_from two bytes []; is = refl; leaves = tt };
-    }
+    calls = [];
+    outcomes = [];
+    out = [];
+    told = none.0;
+    wrote = subst (λ (now : Option (List ℕ)). Appends l now []) (sym none.1) (Appends-nil l);
+    on = λ bytes bound. record { unwritten = []; later = run_from two bytes []; is = refl; leaves = tt };
+  }
   unanswered two b c l m why none = absurd none
 
   -- a call was read, and not answered, or its replies not all written

@@ -21,11 +21,11 @@ use Rattle.session_core.specs.Writes.{AppendsFirst, BreaksOff}
 pub AppendsFront-take : (old new : Option (List ℕ)) (n : ℕ) (text : List ℕ) (reply : Reply) → text ≡ reply_bytes reply →
     Appends old new (take n text) → AppendsFront old new (flat_map reply_bytes (reply ∷ []))
 AppendsFront-take old new n text reply is wrote = record {
-    front = take n text;
-    rest = drop n text;
-    whole = append-nil (reply_bytes reply) ∙ sym is ∙ sym (take-append-drop n text);
-    wrote = wrote;
-  }
+  front = take n text;
+  rest = drop n text;
+  whole = append-nil (reply_bytes reply) ∙ sym is ∙ sym (take-append-drop n text);
+  wrote = wrote;
+}
 
 pub AppendsFirst-none : (old : Option (List ℕ)) (replies : List Reply) → AppendsFirst old old replies
 AppendsFirst-none old replies = record { first = []; others = replies; whole = refl; wrote = Appends-nil old }
@@ -34,24 +34,28 @@ AppendsFirst-none old replies = record { first = []; others = replies; whole = r
 pub BreaksOff-after : (why : Stop) (done : List Reply) (reply : Reply) (rest all : List Reply) (old mid new : Option (List ℕ)) (before now : ℕ) →
     all ≡ done ++ reply ∷ rest → Appends old mid (flat_map reply_bytes done) →
     BreaksOff why (reply ∷ []) mid new before now → BreaksOff why all old new before now
-BreaksOff-after stop.WriteFault done reply rest all old mid new before now split wrote broke =
-    (record {
-      front = flat_map reply_bytes done ++ broke.0.front;
-      rest = broke.0.rest ++ flat_map reply_bytes rest;
-      whole =
-          ap (λ (replies : List Reply). flat_map reply_bytes replies) split
-          ∙ flat_map-append reply_bytes done (reply ∷ rest)
-          ∙ ap (λ (bytes : List ℕ). flat_map reply_bytes done ++ (bytes ++ flat_map reply_bytes rest)) (sym (append-nil (reply_bytes reply)) ∙ broke.0.whole)
-          ∙ simp append_assoc;
-      wrote = Appends-trans old mid new (flat_map reply_bytes done) broke.0.front wrote broke.0.wrote;
-    }, broke.1)
-BreaksOff-after stop.Memory done reply rest all old mid new before now split wrote broke =
-    (record {
-      first = done ++ broke.0.first;
-      others = broke.0.others ++ rest;
-      whole = split ∙ ap (λ (replies : List Reply). done ++ (replies ++ rest)) broke.0.whole ∙ simp append_assoc;
-      wrote = rw (flat_map-append reply_bytes done broke.0.first) (Appends-trans old mid new (flat_map reply_bytes done) (flat_map reply_bytes broke.0.first) wrote broke.0.wrote);
-    }, broke.1)
+BreaksOff-after stop.WriteFault done reply rest all old mid new before now split wrote broke = (
+  record {
+    front = flat_map reply_bytes done ++ broke.0.front;
+    rest = broke.0.rest ++ flat_map reply_bytes rest;
+    whole =
+        ap (λ (replies : List Reply). flat_map reply_bytes replies) split
+        ∙ flat_map-append reply_bytes done (reply ∷ rest)
+        ∙ ap (λ (bytes : List ℕ). flat_map reply_bytes done ++ (bytes ++ flat_map reply_bytes rest)) (sym (append-nil (reply_bytes reply)) ∙ broke.0.whole)
+        ∙ simp append_assoc;
+    wrote = Appends-trans old mid new (flat_map reply_bytes done) broke.0.front wrote broke.0.wrote;
+  },
+  broke.1,
+)
+BreaksOff-after stop.Memory done reply rest all old mid new before now split wrote broke = (
+  record {
+    first = done ++ broke.0.first;
+    others = broke.0.others ++ rest;
+    whole = split ∙ ap (λ (replies : List Reply). done ++ (replies ++ rest)) broke.0.whole ∙ simp append_assoc;
+    wrote = rw (flat_map-append reply_bytes done broke.0.first) (Appends-trans old mid new (flat_map reply_bytes done) (flat_map reply_bytes broke.0.first) wrote broke.0.wrote);
+  },
+  broke.1,
+)
 BreaksOff-after why done reply rest all old mid new before now split wrote broke = absurd broke
 
 -- one more reply stands written

@@ -79,11 +79,11 @@ run_messages limit total index [] rest outcomes = stopped (at_rest limit index t
 run_messages limit total index (payload ∷ payloads) rest outcomes =
     if nat_lt limit (length payload) then stopped (TooLong index)
     else by_call index (call_of payload)
-        (record {
-          calls = run_messages limit total (index + 1) payloads rest;
-          raw = λ raw. raw_run total raw (flat_map ended payloads ++ rest);
-        })
-        outcomes
+    (record {
+      calls = run_messages limit total (index + 1) payloads rest;
+      raw = λ raw. raw_run total raw (flat_map ended payloads ++ rest);
+    })
+    outcomes
 
 -- the run on from the message of this index, through these bytes, which are the last of `total`
 abbrev pub run_on : ℕ → ℕ → ℕ → List ℕ → List Outcome → Ran

@@ -23,9 +23,9 @@ fresh limit = record { limit = limit; phase = Calls; index = 0; taken = 0; held 
 -- what follows the messages handled so far, where these bytes come
 abbrev pub later_of : Seen → List ℕ → Later
 later_of seen bytes = record {
-    calls = run_on seen.limit (seen.taken + length bytes) seen.index (seen.held ++ bytes);
-    raw = λ raw. raw_run (seen.taken + length bytes) raw (seen.held ++ bytes);
-  }
+  calls = run_on seen.limit (seen.taken + length bytes) seen.index (seen.held ++ bytes);
+  raw = λ raw. raw_run (seen.taken + length bytes) raw (seen.held ++ bytes);
+}
 
 -- a call that was read and waits takes the next outcome
 abbrev pub replied : Bool → Later → List Outcome → Ran

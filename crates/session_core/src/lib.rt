@@ -13,3 +13,6 @@ pub use replies::{Answerer, Given, Replies};
 pub use serving::serve_alone;
 pub use sessions::{MOST_BYTES, Session, Turn};
 pub use stops::Stop;
+
+#[cfg(test)]
+mod tests;

@@ -51,6 +51,8 @@ pub fn end_of(held: &[u8]) -> Stop
 {
     match held.len() {
         0 => Stop::End,
-        bytes => Stop::Cut { bytes: bytes as u64 },
+        bytes => Stop::Cut {
+            bytes: bytes as u64,
+        },
     }
 }

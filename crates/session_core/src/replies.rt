@@ -53,7 +53,6 @@ pub struct Given {
 impl Model for Given {
     ghost use Rattle.std.specs.Prelude.{reverse};
     ghost use Rattle.call_form.specs.declared.Outcome.{Outcome};
-
     ghost use Rattle.std.specs.Coded.{codes};
     ghost use Rattle.call_form.specs.contracts.Outcome as outcome;
 

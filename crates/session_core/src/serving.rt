@@ -177,7 +177,13 @@ fn serve_session<S: Source, K: Sink, A: Answerer>(
             Err(Failed) => return Stop::ReadFault,
             Ok(0) => return session.end(),
             Ok(count) => {
-                if let Some(stop) = serve_piece(alloc, &mut session, &buffer[..count], sink, answerer) {
+                if let Some(stop) = serve_piece(
+                    alloc,
+                    &mut session,
+                    &buffer[..count],
+                    sink,
+                    answerer,
+                ) {
                     return stop;
                 }
             }

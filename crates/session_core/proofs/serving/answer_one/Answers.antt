@@ -7,7 +7,7 @@ returns-in-Err-clause-broke g c = inr (c.in-Err.ensures.memory, refl)
 
 pub returns-in-Err-give-clause-broke : goal.returns-in-Err-give-clause-broke
 returns-in-Err-give-clause-broke g c = inl (record {
-      outcome = _;
-      told = c.in-Ok.ensures.told;
-      part = AppendsFront-asked _ c.args.call.oneway (g.A.Out.Replies.left c.in-Ok.replies) c.in-Err-give.stop _ _ _ _ c.requires.waits c.in-Err-give.ensures.part;
-    })
+  outcome = _;
+  told = c.in-Ok.ensures.told;
+  part = AppendsFront-asked _ c.args.call.oneway (g.A.Out.Replies.left c.in-Ok.replies) c.in-Err-give.stop _ _ _ _ c.requires.waits c.in-Err-give.ensures.part;
+})

@@ -7,12 +7,12 @@ use Rattle.session_core.proofs.serving.drain.Goals as goal
 
 pub calls-init : goal.calls-init
 calls-init g c = record {
-    went = Went-same g.A.Answerer.tells _ _ _;
-    running = c.requires;
-    faults = refl;
-    left = refl;
-    read_faults = refl;
-  }
+  went = Went-same g.A.Answerer.tells _ _ _;
+  running = c.requires;
+  faults = refl;
+  left = refl;
+  read_faults = refl;
+}
 
 pub returns-in-Stop-clause-halts : goal.returns-in-Stop-clause-halts
 returns-in-Stop-clause-halts g c =
@@ -22,7 +22,7 @@ pub returns-in-Raw-clause-went : goal.returns-in-Raw-clause-went
 returns-in-Raw-clause-went g c =
     Went-passed_if g.A.Answerer.tells _ _ _ _ _ _ _ _ c.pass_raw.result
     (subst (λ (session : Seen). Went g.A.Answerer.tells c.args.session.now session [] c.args.answerer.now c.calls.answerer
-      (g.K.Ends.written c.args.sink.now) (g.K.Ends.written c.calls.sink))
+    (g.K.Ends.written c.args.sink.now) (g.K.Ends.written c.calls.sink))
     (sym c.in-Raw.ensures.turn.2) c.calls.invariant.went)
     c.pass_raw.ensures.passed
 
@@ -30,7 +30,7 @@ pub returns-in-Raw-clause-halts : goal.returns-in-Raw-clause-halts
 returns-in-Raw-clause-halts g c =
     Halts-passed_if g.A.Answerer.tells _ _ _ _ _ _ _ c.pass_raw.result
     (subst (λ (session : Seen). Went g.A.Answerer.tells c.args.session.now session [] c.args.answerer.now c.calls.answerer
-      (g.K.Ends.written c.args.sink.now) (g.K.Ends.written c.calls.sink))
+    (g.K.Ends.written c.args.sink.now) (g.K.Ends.written c.calls.sink))
     (sym c.in-Raw.ensures.turn.2) c.calls.invariant.went)
     c.pass_raw.ensures.stopped
 

@@ -6,13 +6,13 @@ use Rattle.session_core.proofs.serving.serve_piece.Goals as goal
 
 pub parts-init : goal.parts-init
 parts-init g c = record {
-    within = omega arith;
-    went = Went-same g.A.Answerer.tells _ _ _;
-    ready = c.requires.ready;
-    faults = refl;
-    left = refl;
-    read_faults = refl;
-  }
+  within = omega arith;
+  went = Went-same g.A.Answerer.tells _ _ _;
+  ready = c.requires.ready;
+  faults = refl;
+  left = refl;
+  read_faults = refl;
+}
 
 pub returns-in-Some-clause-halts : goal.returns-in-Some-clause-halts
 returns-in-Some-clause-halts g c =
@@ -21,11 +21,11 @@ returns-in-Some-clause-halts g c =
 
 pub parts-preserved : goal.parts-preserved
 parts-preserved g c = record {
-    within = omega (arith, c.feed-done.ensures.took, c.parts.invariant.within, length-take {A = ℕ}, length-drop {A = ℕ});
-    went = Went-part g.A.Answerer.tells _ _ _ _ c.args.piece.now c.parts.done c.feed-done.result _ _ _ _ _ _ c.parts.invariant.went
-        c.feed-done.ensures.run c.in_default.ensures.went;
-    ready = c.in_default.ensures.ready;
-    faults = c.in_default.ensures.faults ∙ c.parts.invariant.faults;
-    left = c.drain.ensures.other.0 ∙ c.parts.invariant.left;
-    read_faults = c.drain.ensures.other.1 ∙ c.parts.invariant.read_faults;
-  }
+  within = omega (arith, c.feed-done.ensures.took, c.parts.invariant.within, length-take {A = ℕ}, length-drop {A = ℕ});
+  went = Went-part g.A.Answerer.tells _ _ _ _ c.args.piece.now c.parts.done c.feed-done.result _ _ _ _ _ _ c.parts.invariant.went
+      c.feed-done.ensures.run c.in_default.ensures.went;
+  ready = c.in_default.ensures.ready;
+  faults = c.in_default.ensures.faults ∙ c.parts.invariant.faults;
+  left = c.drain.ensures.other.0 ∙ c.parts.invariant.left;
+  read_faults = c.drain.ensures.other.1 ∙ c.parts.invariant.read_faults;
+}

@@ -9,46 +9,46 @@ use Rattle.session_core.proofs.serving.serve_session.Goals as goal
 
 pub takes-init : goal.takes-init
 takes-init g c = record {
-    fed = [];
-    consumed = Consumes-nil _;
-    went = Went-same g.A.Answerer.tells _ _ _;
-    ready = rw c.requires.new (ready-fresh _);
-    reads = refl;
-    writes = refl;
-    source_written = refl;
-    source_faults = refl;
-    sink_left = refl;
-    sink_faults = refl;
-  }
+  fed = [];
+  consumed = Consumes-nil _;
+  went = Went-same g.A.Answerer.tells _ _ _;
+  ready = rw c.requires.new (ready-fresh _);
+  reads = refl;
+  writes = refl;
+  source_written = refl;
+  source_faults = refl;
+  sink_left = refl;
+  sink_faults = refl;
+}
 
 pub returns-in-Err-clause-served : goal.returns-in-Err-clause-served
 returns-in-Err-clause-served g c =
     let earlier = c.takes.invariant in
     rw c.in-Err.ensures.bytes
     (Served-read g.A.Answerer.tells _ c.takes.session earlier.fed _ _ _ _ _ _
-      (subst (λ (from : Seen). Went g.A.Answerer.tells from c.takes.session earlier.fed c.args.answerer.now c.takes.answerer
-        (g.K.Ends.written c.args.sink.now) (g.K.Ends.written c.takes.sink)) c.requires.new earlier.went)
-      earlier.ready earlier.consumed)
+    (subst (λ (from : Seen). Went g.A.Answerer.tells from c.takes.session earlier.fed c.args.answerer.now c.takes.answerer
+    (g.K.Ends.written c.args.sink.now) (g.K.Ends.written c.takes.sink)) c.requires.new earlier.went)
+    earlier.ready earlier.consumed)
 
 pub returns-in-Ok-eq0-clause-served : goal.returns-in-Ok-eq0-clause-served
 returns-in-Ok-eq0-clause-served g c =
     let earlier = c.takes.invariant in
     Served-end g.A.Answerer.tells _ c.takes.session earlier.fed _ _ _ _ _ _ c.end.result
-      (subst (λ (from : Seen). Went g.A.Answerer.tells from c.takes.session earlier.fed c.args.answerer.now c.takes.answerer
-        (g.K.Ends.written c.args.sink.now) (g.K.Ends.written c.takes.sink)) c.requires.new earlier.went)
-      earlier.ready
-      (consumes-none _ _ _ earlier.fed c.take_some.new.buffer c.in-Ok-eq0.field-0 c.in-Ok-eq0.field-0-test earlier.consumed c.in-Ok-eq0.ensures.bytes)
-      c.end.ensures.stop
-      (takes-all c.end.result _ _ earlier.fed c.in-Ok-eq0.field-0 c.in-Ok-eq0.field-0-test earlier.consumed c.in-Ok-eq0.ensures.end)
+    (subst (λ (from : Seen). Went g.A.Answerer.tells from c.takes.session earlier.fed c.args.answerer.now c.takes.answerer
+    (g.K.Ends.written c.args.sink.now) (g.K.Ends.written c.takes.sink)) c.requires.new earlier.went)
+    earlier.ready
+    (consumes-none _ _ _ earlier.fed c.take_some.new.buffer c.in-Ok-eq0.field-0 c.in-Ok-eq0.field-0-test earlier.consumed c.in-Ok-eq0.ensures.bytes)
+    c.end.ensures.stop
+    (takes-all c.end.result _ _ earlier.fed c.in-Ok-eq0.field-0 c.in-Ok-eq0.field-0-test earlier.consumed c.in-Ok-eq0.ensures.end)
 
 pub returns-in-Some-clause-served : goal.returns-in-Some-clause-served
 returns-in-Some-clause-served g c =
     let earlier = c.takes.invariant in
     Served-halt g.A.Answerer.tells _ c.takes.session earlier.fed _ _ _ _ _ _ _ _ _ _ c.in-Some.stop
-      (subst (λ (from : Seen). Went g.A.Answerer.tells from c.takes.session earlier.fed c.args.answerer.now c.takes.answerer
-        (g.K.Ends.written c.args.sink.now) (g.K.Ends.written c.takes.sink)) c.requires.new earlier.went)
-      c.in-Some.ensures.halts c.in-Some.ensures.why earlier.consumed c.in-Ok.ensures.bytes
-      (omega (arith, earlier.ready.more, c.in-Ok.ensures.bound, c.taken.ensures, length-take c.in-Ok.count c.take_some.new.buffer))
+    (subst (λ (from : Seen). Went g.A.Answerer.tells from c.takes.session earlier.fed c.args.answerer.now c.takes.answerer
+    (g.K.Ends.written c.args.sink.now) (g.K.Ends.written c.takes.sink)) c.requires.new earlier.went)
+    c.in-Some.ensures.halts c.in-Some.ensures.why earlier.consumed c.in-Ok.ensures.bytes
+    (omega (arith, earlier.ready.more, c.in-Ok.ensures.bound, c.taken.ensures, length-take c.in-Ok.count c.take_some.new.buffer))
 
 pub takes-preserved : goal.takes-preserved
 takes-preserved g c =

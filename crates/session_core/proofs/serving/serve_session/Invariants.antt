@@ -6,18 +6,18 @@ use Rattle.session_core.proofs.serving.serve_session.Given as goal
 
 abbrev pub invariant-takes : goal.invariant-takes
 invariant-takes g l = record {
-    fed : List ℕ;
-    consumed : Consumes (g.S.Ends.left l.initial.source) (g.S.Ends.left l.source) fed;
-    went : Went g.A.Answerer.tells l.initial.session l.session fed l.initial.answerer l.answerer
-        (g.K.Ends.written l.initial.sink) (g.K.Ends.written l.sink);
-    ready : IsReady l.session;
-    reads : g.S.Ends.read_faults l.source ≡ g.S.Ends.read_faults l.initial.source;
-    writes : g.K.Ends.write_faults l.sink ≡ g.K.Ends.write_faults l.initial.sink;
-    source_written : g.S.Ends.written l.source ≡ g.S.Ends.written l.initial.source;
-    source_faults : g.S.Ends.write_faults l.source ≡ g.S.Ends.write_faults l.initial.source;
-    sink_left : g.K.Ends.left l.sink ≡ g.K.Ends.left l.initial.sink;
-    sink_faults : g.K.Ends.read_faults l.sink ≡ g.K.Ends.read_faults l.initial.sink;
-  }
+  fed : List ℕ;
+  consumed : Consumes (g.S.Ends.left l.initial.source) (g.S.Ends.left l.source) fed;
+  went : Went g.A.Answerer.tells l.initial.session l.session fed l.initial.answerer l.answerer
+      (g.K.Ends.written l.initial.sink) (g.K.Ends.written l.sink);
+  ready : IsReady l.session;
+  reads : g.S.Ends.read_faults l.source ≡ g.S.Ends.read_faults l.initial.source;
+  writes : g.K.Ends.write_faults l.sink ≡ g.K.Ends.write_faults l.initial.sink;
+  source_written : g.S.Ends.written l.source ≡ g.S.Ends.written l.initial.source;
+  source_faults : g.S.Ends.write_faults l.source ≡ g.S.Ends.write_faults l.initial.source;
+  sink_left : g.K.Ends.left l.sink ≡ g.K.Ends.left l.initial.sink;
+  sink_faults : g.K.Ends.read_faults l.sink ≡ g.K.Ends.read_faults l.initial.sink;
+}
 
 abbrev pub decreases-takes : goal.decreases-takes
 decreases-takes g l = most_bytes - l.session.taken

@@ -33,5 +33,5 @@ returns-in-Err-write_reply-clause-part g c =
     BreaksOff-after c.in-Err-write_reply.stop earlier.done c.in-Ok-Some.reply (g.P.Replies.left c.next.new.self).replies _ _ _ _ _ _
     (earlier.split ∙ ap (λ (replies : List Reply). earlier.done ++ replies) first) earlier.wrote
     (subst (λ (faults : ℕ). BreaksOff c.in-Err-write_reply.stop (c.in-Ok-Some.reply ∷ []) (g.K.Ends.written c.replies.sink)
-      (g.K.Ends.written c.write_reply.new.sink) faults (g.K.Ends.write_faults c.write_reply.new.sink))
+    (g.K.Ends.written c.write_reply.new.sink) faults (g.K.Ends.write_faults c.write_reply.new.sink))
     earlier.faults c.in-Err-write_reply.ensures.part)
