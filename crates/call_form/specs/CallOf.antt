@@ -1,4 +1,5 @@
--- Which payload is which call, and the first fault of one that is none (varlink.org, "Method Call": a
+-- Which payload is which call, and the first fault of one that is none (varlink.org, "Method
+-- Call": a
 -- call is an object with `method` and optionally `parameters`, `oneway`, `more` and `upgrade`). A
 -- member that is null counts as absent, and unknown members are ignored.
 use Rattle.std.specs.Prelude.{◌≡◌, ℕ, List, Bool, false, ◌==◌, length, codes, if◌then◌else◌}
@@ -29,12 +30,12 @@ utf8_of payload =
     let valid = utf8_valid_len payload in
     if valid == length payload then Ok payload else Err (NotUtf8 valid)
 
+abbrev pub found_json : Option Data → Result Data CallFault
+found_json None = Err NotJson
+found_json (Some tree) = Ok tree
+
 abbrev pub json_of : List ℕ → Result Data CallFault
-json_of text = found (read text)
-  where
-    found : Option Data → Result Data CallFault
-    found None = Err NotJson
-    found (Some tree) = Ok tree
+json_of text = found_json (read text)
 
 abbrev pub object_of : Data → Result Data CallFault
 object_of tree = if is_some (as_object tree) then Ok tree else Err NotObject

@@ -1,3 +1,4 @@
 pub mod CallOf
 pub mod ReplyText
 pub mod StdErrors
+pub mod CallRules

@@ -6,10 +6,12 @@ ghost use Rattle.std.specs.Prelude.{◌≡◌, ◌↔◌, IsTrue};
 use link_port::{List, Memory, Text, Value};
 
 mod errors;
+mod laws;
 mod reading;
 mod writing;
 
 pub use errors::standard;
+pub use laws::{calls_are, one_message};
 pub use reading::read_call;
 pub use writing::reply_text;
 
