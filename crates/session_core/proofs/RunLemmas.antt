@@ -1,5 +1,5 @@
 -- The run on from a session, through each step.
-use Rattle.std.proofs.Common.{◌≡◌, ℕ, ◌+◌, ◌<◌, ◌≤◌, List, [], ◌∷◌, ◌++◌, length, Bool, true, false, nat_lt, Option, Some, None, Result, Ok, Err, refl, sym, ◌∙◌, ap, subst, arith, append_assoc, length-append, add-zero, rules}
+use Rattle.std.proofs.Common.{◌≡◌, ℕ, ◌+◌, ◌<◌, ◌≤◌, List, [], ◌∷◌, ◌++◌, length, true, false, nat_lt, Ok, Err, refl, sym, ◌∙◌, ap, subst, arith, append_assoc, length-append, add-zero, rules}
 use Rattle.std.proofs.lemmas.List.{append-nil}
 use Rattle.std.proofs.lemmas.Bool.Decides.{nat_tests}
 use Rattle.std.specs.List.{flat_map}
@@ -13,7 +13,7 @@ use Rattle.call_form.specs.declared.Raw.TheVariants.{Echo, Discard}
 use Rattle.call_form.specs.CallOf.{call_of}
 use Rattle.session_core.specs.declared.stops.Stop.{Stop}
 use Rattle.session_core.specs.declared.stops.Stop.TheVariants.{NotCall, TooLong}
-use Rattle.session_core.specs.Run.{Ran, Later, stopped, after, answered, goes_on, texts, run_messages, run_on, raw_run, at_rest, at_end, end_of, echoed}
+use Rattle.session_core.specs.Run.{Later, stopped, after, answered, run_messages, run_on, raw_run, at_end, end_of, echoed}
 use Rattle.session_core.specs.declared.phases.Phase.{Phase}
 use Rattle.session_core.specs.declared.phases.Phase.TheVariants as phase
 use Rattle.session_core.specs.declared.sessions.Turn.{Turn}
@@ -21,7 +21,7 @@ use Rattle.session_core.specs.declared.sessions.Turn.TheVariants as turn
 use Rattle.session_core.specs.declared.stops.Stop.TheVariants as stop
 use Rattle.session_core.specs.Limits.{most_bytes}
 use Rattle.session_core.specs.Seen.{Seen, Moves, replied, later_of, run_in, run_from}
-use Rattle.session_core.specs.Steps.{Heads, IsOpen, StopsAt, StopsIn, Turns, RunsOn, IsPaused, ended_in}
+use Rattle.session_core.specs.Steps.{StopsAt, StopsIn, Turns, RunsOn, IsPaused, ended_in}
 
 -- what follows a message, said of the bytes behind it
 abbrev pub later_on : ℕ → ℕ → ℕ → List ℕ → Later

@@ -1,10 +1,9 @@
 -- A session that is served piece by piece, to its stop.
-use Rattle.std.proofs.Common.{◌≡◌, ℕ, ◌+◌, ◌-◌, ◌<◌, ◌≤◌, ◌↔◌, List, [], ◌∷◌, ◌++◌, length, take, drop, Option, None, Some, IfSome, Result, Ok, refl, sym, ◌∙◌, ap, subst, append_assoc, length-append, zero-add, arith}
+use Rattle.std.proofs.Common.{◌≡◌, ℕ, ◌+◌, ◌-◌, ◌<◌, ◌≤◌, ◌↔◌, List, [], ◌∷◌, ◌++◌, length, take, drop, Option, None, Some, IfSome, refl, sym, ◌∙◌, ap, subst, length-append, zero-add, arith}
 use Rattle.std.proofs.lemmas.List.{append-nil, take-append-drop, take_rest}
 use Rattle.std.proofs.Math.Seq.{take-add}
 use Rattle.std.proofs.KnownBytes.{Appends-nil, Consumes-trans, Consumes-nil}
-use Rattle.std.specs.Io.KnownBytes.{Appends, Consumes}
-use Rattle.link_port.specs.Flow.{EndsWhereNothingIsLeft}
+use Rattle.std.specs.Io.KnownBytes.{Consumes}
 use Rattle.call_form.specs.declared.Call.{Call}
 use Rattle.call_form.specs.declared.Outcome.{Outcome}
 use Rattle.session_core.specs.declared.phases.Phase.{Phase}
@@ -12,10 +11,10 @@ use Rattle.session_core.specs.declared.phases.Phase.TheVariants as phase
 use Rattle.session_core.specs.declared.stops.Stop.{Stop}
 use Rattle.session_core.specs.declared.stops.Stop.TheVariants as stop
 use Rattle.session_core.specs.Limits.{most_bytes}
-use Rattle.session_core.specs.Run.{Ran, stopped, after, run, run_on, at_end, end_of}
+use Rattle.session_core.specs.Run.{Ran, stopped, after, run, run_on, end_of}
 use Rattle.session_core.specs.Seen.{Seen, Moves, fresh, run_from}
 use Rattle.session_core.specs.Steps.{IsPaused, ended_in}
-use Rattle.session_core.specs.Served.{Told, ComesTo, Leaves, IsOfEnd, TakesAll, Served}
+use Rattle.session_core.specs.Served.{ComesTo, Leaves, IsOfEnd, TakesAll, Served}
 use Rattle.session_core.specs.Went.{Went, Halts, IsHalt, IsReady, IsReadyIn}
 use Rattle.session_core.proofs.RunLemmas.{end-run, not_full}
 use Rattle.session_core.proofs.WentLemmas.{Went-trans, Went-fed, Went-Halts, Halts-more}

@@ -7,7 +7,6 @@ use Rattle.call_form.specs.declared.Call.{Call}
 use Rattle.call_form.specs.declared.Outcome.{Outcome}
 use Rattle.session_core.specs.declared.phases.Phase.{Phase}
 use Rattle.session_core.specs.declared.phases.Phase.TheVariants as phase
-use Rattle.session_core.specs.declared.sessions.Turn.{Turn}
 use Rattle.session_core.specs.declared.sessions.Turn.TheVariants as turn
 use Rattle.session_core.specs.declared.stops.Stop.{Stop}
 use Rattle.session_core.specs.declared.stops.Stop.TheVariants as stop
@@ -16,11 +15,11 @@ use Rattle.call_form.specs.declared.Raw.{Raw}
 use Rattle.call_form.specs.declared.Raw.TheVariants.{Echo, Discard}
 use Rattle.session_core.specs.Run.{Ran, stopped, after, texts, echoed, at_end, goes_on}
 use Rattle.session_core.specs.Seen.{Seen, Moves, run_from, later_of, run_in}
-use Rattle.session_core.specs.Steps.{Turns, RunsOn, StopsIn, StopsAt, IsOpen, IsRaw, echoed_in, replied_phase}
+use Rattle.session_core.specs.Steps.{RunsOn, StopsIn, StopsAt, IsRaw, echoed_in, replied_phase}
 use Rattle.link_port.specs.Flow.{AppendsFront}
 use Rattle.session_core.specs.Served.{Told, ComesTo, Leaves}
-use Rattle.session_core.specs.Went.{Went, Halts, Answered, BrokeOff, Unanswered, IsHalt, IsBreak, IsReady, IsReadyIn, IsRunning, Passed, PassedUntil}
-use Rattle.session_core.proofs.RunLemmas.{Moves-same, next-run}
+use Rattle.session_core.specs.Went.{Went, Halts, Answered, BrokeOff, Unanswered, IsHalt, IsBreak, IsRunning, Passed, PassedUntil}
+use Rattle.session_core.proofs.RunLemmas.{Moves-same}
 
 after-after : (calls more : List Call) (out wrote : List ℕ) (ran : Ran) →
     after calls out (after more wrote ran) ≡ after (calls ++ more) (out ++ wrote) ran

@@ -1,11 +1,10 @@
 -- What stands written of the replies to one call.
-use Rattle.std.proofs.Common.{◌≡◌, ℕ, List, [], ◌∷◌, ◌++◌, length, take, drop, Option, Bool, true, false, refl, sym, ◌∙◌, ap, subst, append_assoc, arith}
+use Rattle.std.proofs.Common.{◌≡◌, ℕ, List, [], ◌∷◌, ◌++◌, take, drop, Option, Bool, true, false, refl, sym, ◌∙◌, ap, subst, append_assoc}
 use Rattle.std.proofs.lemmas.List.{append-nil, take-append-drop}
 use Rattle.std.proofs.lemmas.Grind.{flat_map-append}
 use Rattle.std.proofs.KnownBytes.{Appends-nil, Appends-trans}
 use Rattle.std.specs.List.{flat_map}
 use Rattle.std.specs.Io.KnownBytes.{Appends}
-use Rattle.link_port.specs.Faults.{Rises}
 use Rattle.call_form.specs.declared.Reply.{Reply}
 use Rattle.call_form.specs.ReplyText.{reply_bytes}
 use Rattle.call_form.specs.declared.Outcome.{Outcome}

@@ -1,6 +1,6 @@
 -- What the first message held is.
 use Rattle.std.specs.Prelude.{◌≡◌, ℕ, ◌<◌, ◌≤◌, List, length, Ok, Result}
-use Rattle.message_frame.specs.Pieces.{NoNul, ended}
+use Rattle.message_frame.specs.Pieces.{NoNul}
 use Rattle.message_frame.specs.Held.{Held}
 use Rattle.message_frame.specs.Steps.{Begins}
 use Rattle.call_form.specs.declared.Call.{Call}

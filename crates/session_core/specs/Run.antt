@@ -1,7 +1,7 @@
 -- The session machine: what is written on a connection for the bytes that came, and why it stops (varlink.org,
 -- "Method Call": replies come in the order of the calls, a `oneway` call gets none, and after the reply to an accepted
 -- `upgrade` call the connection speaks another protocol).
-use Rattle.std.specs.Prelude.{◌≡◌, ℕ, ◌+◌, ◌^◌, ◌==◌, nat_lt, List, [], ◌∷◌, ◌++◌, length, Bool, if◌then◌else◌, Option, None, Some, Result, Ok, Err}
+use Rattle.std.specs.Prelude.{ℕ, ◌+◌, ◌==◌, nat_lt, List, [], ◌∷◌, ◌++◌, length, Bool, if◌then◌else◌, Option, None, Some, Result, Ok, Err}
 use Rattle.std.specs.List.{flat_map}
 use Rattle.message_frame.specs.Pieces.{ended, pieces}
 use Rattle.call_form.specs.declared.Call.{Call}

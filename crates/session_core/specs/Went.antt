@@ -1,5 +1,5 @@
 -- How far a connection has come, said of whole steps, which can be put one behind the other.
-use Rattle.std.specs.Prelude.{◌≡◌, ℕ, ◌+◌, ◌<◌, ◌≤◌, List, [], ◌∷◌, ◌++◌, length, ⊤, Option, None, Some}
+use Rattle.std.specs.Prelude.{◌≡◌, ℕ, ◌+◌, ◌<◌, ◌≤◌, List, [], ◌∷◌, ◌++◌, length, ⊤, Option}
 use Rattle.std.specs.Io.KnownBytes.{Appends}
 use Rattle.call_form.specs.declared.Call.{Call}
 use Rattle.call_form.specs.declared.Outcome.{Outcome}

@@ -5,9 +5,7 @@ use link_port::Text;
 use std::env;
 use std::io::ErrorKind;
 use std::process::ExitCode;
-use varlink_command::{
-    Desktop, Fault, RealFiles, RealInput, RealOutput, Status, offline, refuse,
-};
+use varlink_command::{Desktop, Fault, RealFiles, RealInput, RealOutput, Status, offline, refuse};
 
 fn main(rt: HostRuntime) -> ExitCode {
     let mut world = Desktop {

@@ -1,5 +1,5 @@
 -- The members of the service's information, put one after another.
-use Rattle.std.proofs.Common.{◌≡◌, ℕ, List, codes, refl, ◌∙◌, ap}
+use Rattle.std.proofs.Common.{◌≡◌, codes, ◌∙◌, ap}
 use Rattle.serde_json.specs.Data.{Data, string, object, Members, no_members, put}
 use Rattle.varlink_command.specs.FixedService.{info, interfaces}
 

@@ -1,5 +1,5 @@
 -- A session that is answered by the fixed service.
-use Rattle.std.proofs.Common.{◌≡◌, ℕ, List, [], ◌∷◌, map, Option, refl, sym, ◌∙◌, ap, subst}
+use Rattle.std.proofs.Common.{◌≡◌, ℕ, List, [], ◌∷◌, map, Option, refl, subst}
 use Rattle.call_form.specs.declared.Call.{Call}
 use Rattle.call_form.specs.declared.Outcome.{Outcome}
 use Rattle.call_form.specs.declared.TheConstants.{CALL_LIMIT}
@@ -23,13 +23,13 @@ module _ {A : Type 0} where
   pub SessionServed-of : (a b : A) (left left' written written' : Option (List ℕ)) (why : Stop) →
       Served tells CALL_LIMIT a b left left' written written' why → SessionServed left left' written written' why
   SessionServed-of a b left left' written written' why served = record {
-      taken = served.taken;
-      calls = served.calls;
-      out = served.out;
-      consumed = served.consumed;
-      most = served.most;
-      wrote = served.wrote;
-      comes = subst (λ (outcomes : List Outcome). ComesTo (run CALL_LIMIT served.taken outcomes) served.calls served.out why)
-          (told-map a b served.calls served.outcomes served.told) served.comes;
-      all = served.all;
-    }
+    taken = served.taken;
+    calls = served.calls;
+    out = served.out;
+    consumed = served.consumed;
+    most = served.most;
+    wrote = served.wrote;
+    comes = subst (λ (outcomes : List Outcome). ComesTo (run CALL_LIMIT served.taken outcomes) served.calls served.out why)
+        (told-map a b served.calls served.outcomes served.told) served.comes;
+    all = served.all;
+  }

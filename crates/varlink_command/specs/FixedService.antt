@@ -1,6 +1,6 @@
 -- The service without a sheet. It has the interface `org.varlink.service` alone (varlink.org, "Service"), answers
 -- `GetInfo`, and tells of every other method that it has nothing for it.
-use Rattle.std.specs.Prelude.{◌≡◌, ℕ, ◌==◌, ◌&&◌, not, Bool, false, List, [], ◌∷◌, codes, if◌then◌else◌, None}
+use Rattle.std.specs.Prelude.{◌==◌, ◌&&◌, not, Bool, false, [], ◌∷◌, codes, if◌then◌else◌, None}
 use Rattle.std.specs.Cmp.Lexicographic.{pointwise}
 use Rattle.serde_json.specs.Data.{Data, string, array, object, no_items, item, no_members, member}
 use Rattle.call_form.specs.declared.Call.{Call}

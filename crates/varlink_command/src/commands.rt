@@ -26,7 +26,7 @@ pub fn offline<S: Source, O: Sink, E: Sink, F: Files>(
     ensures refused { command words.now ≡ None →
         (result.0 ≡ 1) × (world.new ≡ record world.old { faults = world.new.faults })
         × Tells (Some Fault.BadWords) (E.written world.old.faults) (E.written world.new.faults)
-            (E.write_faults world.old.faults) (E.write_faults world.new.faults) }
+        (E.write_faults world.old.faults) (E.write_faults world.new.faults) }
 
     ensures session { command words.now ≡ Some Command.Session → RunsSession
         (record { bytes = S.left world.old.input; faults = S.read_faults world.old.input })
@@ -64,10 +64,7 @@ pub fn refuse<S, O, E: Sink, F>(world: &mut Desktop<S, O, E, F>, fault: Fault) -
 }
 
 /// Serves the calls that come from the input by the service without a sheet.
-fn session<S: Source, O: Sink, E: Sink, F>(
-    alloc: Global,
-    world: &mut Desktop<S, O, E, F>,
-) -> Status
+fn session<S: Source, O: Sink, E: Sink, F>(alloc: Global, world: &mut Desktop<S, O, E, F>) -> Status
     ensures runs { RunsSession
         (record { bytes = S.left world.old.input; faults = S.read_faults world.old.input })
         (record { bytes = S.left world.new.input; faults = S.read_faults world.new.input })
@@ -84,7 +81,12 @@ fn session<S: Source, O: Sink, E: Sink, F>(
     ensures faults_other { IsAsBefore (E.left world.old.faults) (E.left world.new.faults)
         (E.read_faults world.old.faults) (E.read_faults world.new.faults) }
 {
-    let stop = serve_alone(alloc, &mut world.input, &mut world.output, &mut FixedService);
+    let stop = serve_alone(
+        alloc,
+        &mut world.input,
+        &mut world.output,
+        &mut FixedService,
+    );
     conclude(&mut world.faults, fault_of(stop))
 }
 

@@ -1,4 +1,4 @@
-use Rattle.std.proofs.Common.{◌≡◌, [], refl, sym, subst, ap, ◌∙◌}
+use Rattle.std.proofs.Common.{[], refl, sym, subst, ap, ◌∙◌}
 use Rattle.session_core.specs.Seen.{Seen}
 use Rattle.session_core.specs.Went.{Went, IsRunning}
 use Rattle.session_core.specs.declared.phases.Phase.{Phase}

@@ -1,4 +1,4 @@
-use Rattle.std.proofs.Common.{ℕ, refl, ◌∙◌, rules, arith, length-drop}
+use Rattle.std.proofs.Common.{ℕ, refl, ◌∙◌, arith, length-drop}
 use Rattle.std.proofs.lemmas.List.{length-take}
 use Rattle.session_core.proofs.WentLemmas.{Went-same}
 use Rattle.session_core.proofs.ServeLemmas.{Went-part, Halts-part}

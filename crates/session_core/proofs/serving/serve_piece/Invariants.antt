@@ -1,4 +1,4 @@
-use Rattle.std.proofs.Common.{◌≡◌, ◌-◌, ◌≤◌, [], length, take}
+use Rattle.std.proofs.Common.{◌≡◌, ◌-◌, ◌≤◌, length, take}
 use Rattle.session_core.specs.Went.{Went, IsReady}
 use Rattle.session_core.proofs.serving.serve_piece.Given as goal
 

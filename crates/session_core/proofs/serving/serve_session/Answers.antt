@@ -1,7 +1,7 @@
-use Rattle.std.proofs.Common.{[], ◌++◌, refl, sym, ◌∙◌, subst, take, rules, arith}
+use Rattle.std.proofs.Common.{[], ◌++◌, refl, ◌∙◌, subst, take, arith}
 use Rattle.std.proofs.lemmas.List.{length-take}
 use Rattle.std.proofs.KnownBytes.{Consumes-nil, Consumes-trans}
-use Rattle.session_core.specs.Seen.{Seen, fresh}
+use Rattle.session_core.specs.Seen.{Seen}
 use Rattle.session_core.specs.Went.{Went}
 use Rattle.session_core.proofs.WentLemmas.{Went-same, Went-trans}
 use Rattle.session_core.proofs.ServeLemmas.{Served-end, Served-read, Served-halt, takes-all, consumes-none, ready-fresh}

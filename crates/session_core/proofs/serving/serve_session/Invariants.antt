@@ -1,4 +1,4 @@
-use Rattle.std.proofs.Common.{◌≡◌, ℕ, ◌-◌, List, length}
+use Rattle.std.proofs.Common.{◌≡◌, ℕ, ◌-◌, List}
 use Rattle.std.specs.Io.KnownBytes.{Consumes}
 use Rattle.session_core.specs.Limits.{most_bytes}
 use Rattle.session_core.specs.Went.{Went, IsReady}

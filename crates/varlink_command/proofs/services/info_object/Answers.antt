@@ -1,5 +1,5 @@
-use Rattle.std.proofs.Common.{refl, ap, ◌∙◌}
-use Rattle.serde_json.specs.View.{members_view, members_of}
+use Rattle.std.proofs.Common.{refl, ◌∙◌}
+use Rattle.serde_json.specs.View.{members_view}
 use Rattle.varlink_command.proofs.ServiceLemmas.{info-put}
 use Rattle.varlink_command.proofs.services.info_object.Goals as goal
 
