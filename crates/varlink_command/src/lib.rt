@@ -17,4 +17,6 @@ pub use real_streams::{RealInput, RealOutput};
 pub use worlds::{Desktop, Status};
 
 #[cfg(test)]
+mod session_tests;
+#[cfg(test)]
 mod tests;
