@@ -1,0 +1,34 @@
+-- How a seat of the table is a pass.
+use Rattle.std.specs.Prelude.{◌≡◌, ℕ, ◌+◌, ◌^◌, ◌≤◌, [], Option}
+use Rattle.atomic_table.specs.Seated.{TableId}
+use Rattle.atomic_table.specs.declared.shared.Seat.{Seat}
+use Rattle.turn_desk.specs.declared.views.Book.{Book}
+use Rattle.turn_desk.specs.declared.views.Stage.TheVariants.{Idle}
+use Rattle.turn_desk.specs.declared.views.View.{View}
+use Rattle.turn_desk.specs.Passes.{PassView}
+
+module _ {O R : Type 0} where
+  abbrev pub pass_of : Seat (Option (Book O R)) (View O R) → PassView O R
+  pass_of s = record {
+    table = s.table_id;
+    start = s.me.0.start;
+    number = s.me.0.number;
+    numbers = s.me.0.numbers;
+    left = s.me.0.left;
+    asked = s.me.0.spent;
+    seen = s.me.0.seen;
+  }
+
+  -- the seat is in no turn, holds nothing, and knows what the fields say
+  pub record IsIdle (s : Seat (Option (Book O R)) (View O R)) (number left asked : ℕ) : Type 0 where
+    pub stage : s.me.0.stage ≡ Idle
+    pub bare : s.me.1 ≡ []
+    pub number_is : s.me.0.number ≡ number
+    pub left_is : s.me.0.left ≡ left
+    pub asked_is : s.me.0.spent ≡ asked
+    pub few : left + asked ≤ 2 ^ 62
+    pub low : number ≤ 2 ^ 62
+
+-- the table has the three words and the one slot
+abbrev pub IsLaid : TableId → Type 0
+IsLaid z = (z.words ≡ 3) × (z.slots ≡ 1)
