@@ -1,6 +1,6 @@
 -- Lists of views, and histories.
-use Rattle.std.proofs.Common.{Bool, true, false, cond, leb, ◌≡◌, ◌≢◌, ◌⊎◌, ℕ, zero, suc, ◌+◌, ◌<◌, ◌≤◌, List, [], ◌∷◌, ◌++◌, length, set, sym, refl, ap, ◌∙◌, subst, inl, inr, arith, append_assoc, append-nil, ⊎_elim, Some, None}
-use Rattle.std.specs.Prelude.{All, Contains}
+use Rattle.std.proofs.Common.{Bool, true, false, cond, leb, ◌≡◌, ◌≢◌, ◌⊎◌, ℕ, zero, suc, ◌+◌, ◌<◌, ◌≤◌, List, [], ◌∷◌, ◌++◌, length, set, sym, refl, ap, ◌∙◌, subst, inl, inr, arith, append_assoc, append-nil, ⊎_elim, ne_eqb, Some, None}
+use Rattle.std.specs.Prelude.{All, Contains, eqb, map, filter}
 use Rattle.std.proofs.lemmas.List.Elements.{All-nil, All-cons, All-head, All-tail, All-append, All-weaker, Contains-append_cases}
 use Rattle.std.proofs.lemmas.List.Sums.{sum_by-append}
 use Rattle.std.proofs.lemmas.Bool.Decides.{nat_tests}
@@ -8,7 +8,7 @@ use mathlib.Core.Option.{some, some-injective, some-ne-none}
 use native.Mathlib.Decide.{ℕ_discrete}
 use lib.ListN.{get_elem?}
 use Rattle.turn_desk.specs.declared.objects.Entry.{Entry}
-use Rattle.turn_desk.specs.Histories.{state_of, reply_at, weight_of, AllGood, NoneOf, GoesOn, longer}
+use Rattle.turn_desk.specs.Histories.{state_of, reply_at, weight_of, AllGood, NoneOf, GoesOn, longer, requests_of}
 use Rattle.turn_desk.specs.Turns.{total}
 
 abbrev pick : {P : Type 0} → Dec P → ℕ → ℕ → ℕ
@@ -179,3 +179,10 @@ module _ {R : Type 0} where
             (f.0, f.1, all_left (λ (e : Entry R). ¬ Contains q e.pass) f.0 g.0 both),
             (g.0, g.1, none_of_both p q g.0 g.2 (all_right (λ (e : Entry R). ¬ Contains q e.pass) f.0 g.0 both)),
           )
+
+module _ {R : Type 0} where
+  pub requests_none : (n : ℕ) (log : List (Entry R)) → All (λ e. e.pass ≢ n) log → requests_of n log ≡ []
+  requests_none n [] a = refl
+  requests_none n (e ∷ es) a =
+      let other : eqb e.pass n ≡ false = ne_eqb e.pass n (All-head (λ (x : Entry R). x.pass ≢ n) e es a) in
+      ap (λ b. map (λ x. x.request) (cond b (e ∷ filter (λ x. eqb x.pass n) es) (filter (λ x. eqb x.pass n) es))) other ∙ requests_none n es (All-tail (λ (x : Entry R). x.pass ≢ n) e es a)
