@@ -1,15 +1,15 @@
 -- What an answer in a turn makes of the book, and of the history.
-use Rattle.std.proofs.Common.{◌≡◌, ℕ, ◌+◌, ◌<◌, ◌≤◌, List, [], ◌∷◌, ◌++◌, sym, refl, ap, ◌∙◌, subst, arith, append-nil, append_assoc, Option, Some, Result, Ok, Err, IfOk, IfErr, OnOk, OnErr}
+use Rattle.std.proofs.Common.{◌≡◌, ℕ, ◌+◌, ◌<◌, ◌≤◌, List, [], ◌∷◌, ◌++◌, sym, refl, ap, ◌∙◌, subst, arith, append-nil, append_assoc, Option, Some, Result, Ok, Err, IfOk, IfErr, OnOk, OnErr, MatchResult}
 use Rattle.std.specs.Prelude.{All, Contains}
 use Rattle.std.proofs.lemmas.List.Elements.{All-nil, All-push}
 use Rattle.turn_desk.specs.declared.objects.Entry.{Entry}
 use Rattle.turn_desk.specs.declared.views.Book.{Book}
 use Rattle.turn_desk.specs.declared.faults.AskFault.{AskFault}
 use Rattle.turn_desk.specs.Asks.{EndsWith}
-use Rattle.turn_desk.specs.Histories.{state_of, reply_at, weight_of, AllGood, NoneOf, GoesOn}
+use Rattle.turn_desk.specs.Histories.{state_of, reply_at, weight_of, AllGood, NoneOf, GoesOn, requests_of}
 use Rattle.turn_desk.specs.Turns.{Taken, Adds}
 use Rattle.turn_desk.specs.declared.views.View.{View}
-use Rattle.turn_desk.proofs.Lists.{reply_last, good_at}
+use Rattle.turn_desk.proofs.Lists.{reply_last, good_at, requests_same, requests_one}
 
 pub front_of : {R : Type 0} (seen before log : List (Entry R)) (carried numbers : List ℕ) → seen ≡ before → carried ≡ numbers → GoesOn seen carried log → GoesOn before numbers log
 front_of seen before log carried numbers p q g = subst (λ (z : List (Entry _)). GoesOn z numbers log) p (subst (λ (z : List ℕ). GoesOn seen z log) q g)
@@ -65,3 +65,10 @@ module _ {O R A : Type 0} (good : O → R → Type 0) (after : O → R → O) (w
   replies answer v b c e (Ok x) taken is ok =
       ap (λ (z : Book O R). reply_at after answer start z.entries) ok ∙ (reply_last after answer start b.entries e ∙ ap (λ z. Some z) (ap (λ (z : Book O R). answer z.object e.request) (sym taken.whole) ∙ sym is))
   replies answer v b c e (Err f) taken is ok = tt
+
+module _ {R A : Type 0} where
+  -- the pass's own requests are as before, with this one where it was answered
+  pub own_requests : (e : Entry R) (joined : List ℕ) (before seen : List (Entry R)) (r : Result A AskFault) → OnOk r (EndsWith before (e.pass ∷ joined) e seen) → OnErr r (GoesOn before (e.pass ∷ joined) seen)
+      → MatchResult r (λ _. requests_of e.pass seen ≡ requests_of e.pass before ++ e.request ∷ []) (λ _. requests_of e.pass seen ≡ requests_of e.pass before)
+  own_requests e joined before seen (Ok x) one none = requests_one joined before seen e one
+  own_requests e joined before seen (Err f) one none = requests_same e.pass joined before seen none

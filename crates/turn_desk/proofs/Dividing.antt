@@ -15,7 +15,7 @@ use Rattle.turn_desk.specs.declared.views.Stage.{Stage}
 use Rattle.turn_desk.specs.declared.views.Stage.TheVariants.{Gone, Idle, Waits, Has, Numbered, Joined}
 use Rattle.turn_desk.specs.declared.views.View.{View}
 use Rattle.turn_desk.specs.Histories.{state_of, weight_of, AllGood, NoneOf, GoesOn, longer, Apart}
-use Rattle.turn_desk.specs.Turns.{Moment, Lives, Queues, Fresh, Both, total, asks_of, spent_of, book_of, InTurn, KnowsAt, Knows, Signed, Kept, first_view, number_in, split_kept, split_given, joined, gone}
+use Rattle.turn_desk.specs.Turns.{Moment, Lives, Queues, Fresh, Both, total, asks_of, numbers_of, spent_of, book_of, InTurn, KnowsAt, Knows, Signed, Kept, first_view, number_in, split_kept, split_given, joined, gone}
 use Rattle.turn_desk.proofs.Lists.{put, put_here, put_else, moved, moved_there, moved_else, total_set, total_snoc, total_one, total_two, at_end, at_below, all_right, goes_on_same, middle, united}
 use Rattle.turn_desk.proofs.Moments.{Still, others_know, all_know, signed_stays}
 use Rattle.turn_desk.proofs.Steps.{Rule, Place, place_stays, signed_all, not_idle}
@@ -68,7 +68,7 @@ module _ {O R : Type 0} (good : O → R → Type 0) (after : O → R → O) (wei
     where
       only : (seat : ℕ) (v : View O R) → get_elem? (first_view start ∷ []) seat ≡ some v → Knows after weigh start opening_moment seat v
       only Rattle.std.proofs.Common.zero v e = subst (Knows after weigh start opening_moment 0) (some-injective (first_view start) v e)
-          record { begun = refl; own = (0, omega arith, refl); carried = λ n inside. (let is = contains_one 0 n inside in omega arith, refl); front = goes_on_same [] (0 ∷ []) }
+          record { begun = refl; carried = λ n inside. (let is = contains_one 0 n inside in omega arith, refl); front = goes_on_same [] (0 ∷ []) }
       only (Rattle.std.proofs.Common.suc k) v e = absurd (some-ne-none v (sym e))
 
   pub splits : (id n amount : ℕ) (v : View O R) → v.stage ≡ Numbered n → amount ≤ v.left → Splits (Rule good after weigh start) id v (split_kept amount v) (split_given amount v)
@@ -94,12 +94,11 @@ module _ {O R : Type 0} (good : O → R → Type 0) (after : O → R → O) (wei
       let unused : All (λ e. e.pass ≢ n) now.log = f.unused in
       let place = place_stays good after weigh start s k next id v w at (λ t. subst InTurn stage t) refl refl (λ _. refl) in
       let each = all_know after weigh start now next s.views id w k.each
-          record { begun = l.begun; own = l.own; carried = λ i inside. let c = l.carried i inside in (c.0, put_else now.holder n last i (λ e. f.other (subst (Contains v.numbers) e inside)) ∙ c.1); front = l.front }
+          record { begun = l.begun; carried = λ i inside. let c = l.carried i inside in (c.0, put_else now.holder n last i (λ e. f.other (subst (Contains (numbers_of v)) e inside)) ∙ c.1); front = l.front }
           (λ seat other. handed_by now id seat n last other f.mine) in
       let g = l.front in
       let new : Lives start next last u = record {
         begun = l.begun;
-        own = (0, omega arith, refl);
         carried = λ i inside. let is : i ≡ n = sym (contains_one m i inside) ∙ m_is in let b = f.below in (omega arith, ap (put now.holder n last) is ∙ put_here now.holder n last);
         front = (g.0, g.1, All-weaker (λ (e : Entry R). e.pass ≢ n) (λ (e : Entry R). ¬ Contains (m ∷ []) e.pass) (λ e other inside. other (sym (contains_one m e.pass inside) ∙ m_is)) g.0
             (all_right (λ (e : Entry R). e.pass ≢ n) v.seen g.0 (subst (λ z. All (λ e. e.pass ≢ n) z) g.1 unused)));
@@ -137,14 +136,14 @@ module _ {O R : Type 0} (good : O → R → Type 0) (after : O → R → O) (wei
       let spent' = total_set spent_of views other w gone there' in
       let a = k.asks in
       let r = k.room in
-      let one = united v.seen w.seen v.numbers w.numbers now.log l.front l'.front in
-      let carried : (n : ℕ) → Contains (v.numbers ++ w.numbers) n → (n < now.numbers) × (next.holder n ≡ id) = λ n inside. ⊎_elim
-          (λ (x : Contains v.numbers n). let c = l.carried n x in (c.0, moved_else now.holder other id n (λ e. apart (sym e ∙ c.1)) ∙ c.1))
-          (λ (x : Contains w.numbers n). let c = l'.carried n x in (c.0, moved_there now.holder other id n c.1)) (Contains-append_cases v.numbers w.numbers n inside) in
-      let mine : Lives start next id b = record { begun = l.begun; own = Contains-append_left v.numbers w.numbers v.number l.own; carried = carried; front = one.2 } in
-      let both : Both next b v.seen w.seen v.numbers w.numbers = record {
-        within = λ n c. Contains-append_left v.numbers w.numbers n c;
-        within_too = λ n c. Contains-append_right v.numbers w.numbers n c;
+      let one = united v.seen w.seen (numbers_of v) (numbers_of w) now.log l.front l'.front in
+      let carried : (n : ℕ) → Contains ((numbers_of v) ++ (numbers_of w)) n → (n < now.numbers) × (next.holder n ≡ id) = λ n inside. ⊎_elim
+          (λ (x : Contains (numbers_of v) n). let c = l.carried n x in (c.0, moved_else now.holder other id n (λ e. apart (sym e ∙ c.1)) ∙ c.1))
+          (λ (x : Contains (numbers_of w) n). let c = l'.carried n x in (c.0, moved_there now.holder other id n c.1)) (Contains-append_cases (numbers_of v) (numbers_of w) n inside) in
+      let mine : Lives start next id b = record { begun = l.begun; carried = carried; front = one.2 } in
+      let both : Both next b v.seen w.seen (numbers_of v) (numbers_of w) = record {
+        within = λ n c. Contains-append_left (numbers_of v) (numbers_of w) n c;
+        within_too = λ n c. Contains-append_right (numbers_of v) (numbers_of w) n c;
         longest = refl;
         first = l.front;
         second = l'.front;
@@ -165,9 +164,9 @@ module _ {O R : Type 0} (good : O → R → Type 0) (after : O → R → O) (wei
                 let before = old.3 in
                 subst (λ (seat : ℕ). Signed (set views other gone) seat e.pass) (sym (moved_there now.holder other id e.pass is))
                 (b, set_else views other id gone (λ z. apart (sym z)) ∙ set_here s.views id b (at_below s.views id v at),
-                  Contains-append_right v.numbers w.numbers e.pass (subst (λ (z : View O R). Contains z.numbers e.pass) same old.2), omega arith))
+                  Contains-append_right (numbers_of v) (numbers_of w) e.pass (subst (λ (z : View O R). Contains (numbers_of z) e.pass) same old.2), omega arith))
             (λ not.
-                let mid : Signed views (now.holder e.pass) e.pass = signed_stays s.views id v b at (λ n c. Contains-append_left v.numbers w.numbers n c) (omega arith) (now.holder e.pass) e.pass old in
+                let mid : Signed views (now.holder e.pass) e.pass = signed_stays s.views id v b at (λ n c. Contains-append_left (numbers_of v) (numbers_of w) n c) (omega arith) (now.holder e.pass) e.pass old in
                 subst (λ (seat : ℕ). Signed (set views other gone) seat e.pass) (sym (moved_else now.holder other id e.pass not))
                 (mid.0, set_else views other (now.holder e.pass) gone not ∙ mid.1, mid.2, mid.3));
         asks = omega arith;
@@ -190,7 +189,7 @@ module _ {O R : Type 0} (good : O → R → Type 0) (after : O → R → O) (wei
   pub record Ended (v : View O R) (slots : List (Option (Book O R))) : Type 0 where
     pub book : get_elem? slots 0 ≡ some (Some (book_of after weigh start v.seen))
     pub good_all : AllGood good start v.seen
-    pub signed : All (λ e. Contains v.numbers e.pass) v.seen
+    pub signed : All (λ e. Contains (numbers_of v) e.pass) v.seen
 
   pub ends : (id : ℕ) (v : View O R) (words : List ℕ) (slots : List (Option (Book O R))) → v.stage ≡ Idle → v.left + v.spent ≡ 2 ^ 62 → Final (Seen (Rule good after weigh start) id v) words slots → Ended v slots
   ends id v words slots idle all final =
@@ -201,10 +200,10 @@ module _ {O R : Type 0} (good : O → R → Type 0) (after : O → R → O) (wei
       let l : Lives start now id v = subst (KnowsAt after weigh start now id v) idle (k.each id v at) in
       let none_else : (j : ℕ) (u : View O R) → get_elem? s.views j ≡ some u → 0 < u.spent → j ≡ id = λ j u e paid. dite (ℕ_discrete j id) (λ is. is)
           (λ not. let t = total_two asks_of s.views j id u v not e at in let a = k.asks in absurd (omega arith)) in
-      let signed : All (λ e. Contains v.numbers e.pass) now.log = All-weaker (λ (e : Entry R). Signed s.views (now.holder e.pass) e.pass) (λ (e : Entry R). Contains v.numbers e.pass)
+      let signed : All (λ e. Contains (numbers_of v) e.pass) now.log = All-weaker (λ (e : Entry R). Signed s.views (now.holder e.pass) e.pass) (λ (e : Entry R). Contains (numbers_of v) e.pass)
           (λ e sign. let is = none_else (now.holder e.pass) sign.0 sign.1 sign.3 in
-              let same : sign.0 ≡ v = some-injective sign.0 v (sym sign.1 ∙ (ap (get_elem? s.views) is ∙ at)) in subst (λ (z : View O R). Contains z.numbers e.pass) same sign.2) now.log k.signed in
-      let whole : now.log ≡ v.seen = nothing_after v.seen now.log v.numbers l.front.0 l.front.1 l.front.2 signed in
+              let same : sign.0 ≡ v = some-injective sign.0 v (sym sign.1 ∙ (ap (get_elem? s.views) is ∙ at)) in subst (λ (z : View O R). Contains (numbers_of z) e.pass) same sign.2) now.log k.signed in
+      let whole : now.log ≡ v.seen = nothing_after v.seen now.log (numbers_of v) l.front.0 l.front.1 l.front.2 signed in
       let home : get_elem? s.homes 0 ≡ some (some (Some (book_of after weigh start now.log))) = ⊎_elim (λ h. h)
           (λ (away : (x : View O R) × (get_elem? s.views (now.owner now.serving) ≡ some x) × InTurn x.stage).
               let paid = turn_paid now (now.owner now.serving) away.0 away.0.stage away.2 (k.each (now.owner now.serving) away.0 away.1) in
@@ -213,7 +212,7 @@ module _ {O R : Type 0} (good : O → R → Type 0) (after : O → R → O) (wei
               absurd (not_idle good after weigh start v.stage idle (subst (λ (z : View O R). InTurn z.stage) same away.2))) k.place in record {
         book = final.4 0 (Some (book_of after weigh start now.log)) home ∙ ap (λ z. some (Some (book_of after weigh start z))) whole;
         good_all = subst (AllGood good start) whole k.good_all;
-        signed = subst (λ z. All (λ e. Contains v.numbers e.pass) z) whole signed;
+        signed = subst (λ z. All (λ e. Contains (numbers_of v) e.pass) z) whole signed;
       }
     where
       turn_paid : (now : Moment R) (seat : ℕ) (v : View O R) (stage : Stage O R) → InTurn stage → KnowsAt after weigh start now seat v stage → 0 < v.spent

@@ -1,7 +1,7 @@
 -- Lists of views, and histories.
-use Rattle.std.proofs.Common.{Bool, true, false, cond, leb, ◌≡◌, ◌≢◌, ◌⊎◌, ℕ, zero, suc, ◌+◌, ◌<◌, ◌≤◌, List, [], ◌∷◌, ◌++◌, length, set, sym, refl, ap, ◌∙◌, subst, inl, inr, arith, append_assoc, append-nil, ⊎_elim, ne_eqb, Some, None}
+use Rattle.std.proofs.Common.{Bool, true, false, cond, leb, ◌≡◌, ◌≢◌, ◌⊎◌, ℕ, zero, suc, ◌+◌, ◌<◌, ◌≤◌, List, [], ◌∷◌, ◌++◌, length, set, sym, refl, ap, ◌∙◌, subst, inl, inr, arith, append_assoc, append-nil, ⊎_elim, ne_eqb, eq-eqb, Some, None}
 use Rattle.std.specs.Prelude.{All, Contains, eqb, map, filter}
-use Rattle.std.proofs.lemmas.List.Elements.{All-nil, All-cons, All-head, All-tail, All-append, All-weaker, Contains-append_cases}
+use Rattle.std.proofs.lemmas.List.Elements.{All-nil, All-cons, All-head, All-tail, All-append, All-weaker, Contains-append_cases, filter-append}
 use Rattle.std.proofs.lemmas.List.Sums.{sum_by-append}
 use Rattle.std.proofs.lemmas.Bool.Decides.{nat_tests}
 use mathlib.Core.Option.{some, some-injective, some-ne-none}
@@ -9,6 +9,8 @@ use native.Mathlib.Decide.{ℕ_discrete}
 use lib.ListN.{get_elem?}
 use Rattle.turn_desk.specs.declared.objects.Entry.{Entry}
 use Rattle.turn_desk.specs.Histories.{state_of, reply_at, weight_of, AllGood, NoneOf, GoesOn, longer, requests_of}
+use mathlib.Core.List.{map-append}
+use Rattle.turn_desk.specs.Asks.{EndsWith}
 use Rattle.turn_desk.specs.Turns.{total}
 
 abbrev pick : {P : Type 0} → Dec P → ℕ → ℕ → ℕ
@@ -186,3 +188,21 @@ module _ {R : Type 0} where
   requests_none n (e ∷ es) a =
       let other : eqb e.pass n ≡ false = ne_eqb e.pass n (All-head (λ (x : Entry R). x.pass ≢ n) e es a) in
       ap (λ b. map (λ x. x.request) (cond b (e ∷ filter (λ x. eqb x.pass n) es) (filter (λ x. eqb x.pass n) es))) other ∙ requests_none n es (All-tail (λ (x : Entry R). x.pass ≢ n) e es a)
+
+  pub requests_more : (n : ℕ) (xs ys : List (Entry R)) → requests_of n (xs ++ ys) ≡ requests_of n xs ++ requests_of n ys
+  requests_more n xs ys = ap (map (λ x. x.request)) (filter-append (λ (x : Entry R). eqb x.pass n) xs ys) ∙ map-append (λ (x : Entry R). x.request) (filter (λ x. eqb x.pass n) xs) (filter (λ x. eqb x.pass n) ys)
+
+  requests_last : (n : ℕ) (e : Entry R) → e.pass ≡ n → requests_of n (e ∷ []) ≡ e.request ∷ []
+  requests_last n e is = ap (λ b. map (λ (x : Entry R). x.request) (cond b (e ∷ []) [])) (eq-eqb e.pass n is)
+
+  -- entries of other passes change nothing of a pass's own requests
+  pub requests_same : (n : ℕ) (numbers : List ℕ) (before seen : List (Entry R)) → GoesOn before (n ∷ numbers) seen → requests_of n seen ≡ requests_of n before
+  requests_same n numbers before seen g =
+      ap (requests_of n) g.1 ∙ (requests_more n before g.0
+      ∙ (ap (λ l. requests_of n before ++ l) (requests_none n g.0 (All-weaker (λ (e : Entry R). ¬ Contains (n ∷ numbers) e.pass) (λ (e : Entry R). e.pass ≢ n) (λ e apart is. apart (0, omega arith, sym is)) g.0 g.2))
+      ∙ append-nil (requests_of n before)))
+
+  pub requests_one : (numbers : List ℕ) (before seen : List (Entry R)) (e : Entry R) → EndsWith before (e.pass ∷ numbers) e seen → requests_of e.pass seen ≡ requests_of e.pass before ++ e.request ∷ []
+  requests_one numbers before seen e g =
+      ap (requests_of e.pass) g.1 ∙ (requests_more e.pass (before ++ g.0) (e ∷ [])
+      ∙ λ i. requests_same e.pass numbers before (before ++ g.0) (g.0, refl, g.2) i ++ requests_last e.pass e refl i)

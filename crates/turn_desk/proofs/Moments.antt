@@ -13,7 +13,7 @@ use Rattle.turn_desk.specs.declared.views.Stage.{Stage}
 use Rattle.turn_desk.specs.declared.views.Stage.TheVariants.{Gone, Idle, Waits, Has, Numbered, Joined}
 use Rattle.turn_desk.specs.declared.views.View.{View}
 use Rattle.turn_desk.specs.Histories.{NoneOf, GoesOn}
-use Rattle.turn_desk.specs.Turns.{Moment, Lives, Queues, Fresh, Both, book_of, KnowsAt, Knows, Signed}
+use Rattle.turn_desk.specs.Turns.{Moment, numbers_of, Lives, Queues, Fresh, Both, book_of, KnowsAt, Knows, Signed}
 use Rattle.turn_desk.proofs.Lists.{goes_on_more, at_below}
 
 -- from one moment to the next, nothing that concerns this seat has changed
@@ -35,9 +35,8 @@ module _ {O R : Type 0} (now next : Moment R) (seat : ℕ) (v : View O R) (still
   pub lives_stays : (start : O) → Lives start now seat v → Lives start next seat v
   lives_stays start k = record {
     begun = k.begun;
-    own = k.own;
     carried = λ n inside. let c = k.carried n inside in still.carried n c.1 c.0;
-    front = front_stays v.seen v.numbers (λ n inside. (k.carried n inside).1) k.front;
+    front = front_stays v.seen (numbers_of v) (λ n inside. (k.carried n inside).1) k.front;
   }
 
   queue_stays : (t : ℕ) → Queues now seat v t → Queues next seat v t
@@ -88,7 +87,7 @@ module _ {O R : Type 0} where
       (λ (t : (seat ≢ id) × (get_elem? views seat ≡ some v)). others_know now next seat v (still seat t.0) after weigh start (each seat v t.1)) (at_set views id seat w v at)
 
   -- a signature stays where the view that changed keeps its numbers and what it has spent
-  pub signed_stays : (views : List (View O R)) (id : ℕ) (v w : View O R) → get_elem? views id ≡ some v → ((n : ℕ) → Contains v.numbers n → Contains w.numbers n) → v.spent ≤ w.spent
+  pub signed_stays : (views : List (View O R)) (id : ℕ) (v w : View O R) → get_elem? views id ≡ some v → ((n : ℕ) → Contains (numbers_of v) n → Contains (numbers_of w) n) → v.spent ≤ w.spent
       → (seat n : ℕ) → Signed views seat n → Signed (set views id w) seat n
   signed_stays views id v w at keeps spends seat n s =
       dite (ℕ_discrete seat id)
@@ -98,7 +97,7 @@ module _ {O R : Type 0} where
           let before = s.3 in (
             w,
             ap (get_elem? (set views id w)) same ∙ set_here views id w (at_below views id v at),
-            keeps n (subst (λ (z : View O R). Contains z.numbers n) is s.2),
+            keeps n (subst (λ (z : View O R). Contains (numbers_of z) n) is s.2),
             omega arith,
           ))
       (λ other. (s.0, set_else views id seat w other ∙ s.1, s.2, s.3))

@@ -15,7 +15,7 @@ use Rattle.turn_desk.specs.declared.views.Stage.{Stage}
 use Rattle.turn_desk.specs.declared.views.Stage.TheVariants.{Gone, Idle, Waits, Has, Numbered, Joined}
 use Rattle.turn_desk.specs.declared.views.View.{View}
 use Rattle.turn_desk.specs.Histories.{state_of, weight_of, AllGood, GoesOn}
-use Rattle.turn_desk.specs.Turns.{Moment, Lives, Queues, Fresh, Sat, total, asks_of, spent_of, book_of, InTurn, KnowsAt, Knows, Signed, Kept, drew, ticket_in, Taken, looked, Adds, passed, numbered, SettledAt, Settled, settled}
+use Rattle.turn_desk.specs.Turns.{Moment, Lives, Queues, Fresh, Sat, total, asks_of, numbers_of, spent_of, book_of, InTurn, KnowsAt, Knows, Signed, Kept, drew, ticket_in, Taken, looked, Adds, passed, numbered, SettledAt, Settled, settled}
 use Rattle.turn_desk.proofs.Lists.{put, put_here, put_else, total_set, total_one, total_less, at_below, all_left, goes_on_same, weight_more, state_more, united}
 use Rattle.turn_desk.proofs.Moments.{Still, all_know, signed_stays}
 
@@ -97,7 +97,7 @@ module _ {O R : Type 0} (good : O → R → Type 0) (after : O → R → O) (wei
           inr (away.0, ap (get_elem? (set s.views id w)) same ∙ (set_else s.views id (now.owner now.serving) w other ∙ away.1), away.2))
       k.place
 
-  pub signed_all : (s : State (Option (Book O R)) (View O R)) (k : Rule s) (id : ℕ) (v w : View O R) → get_elem? s.views id ≡ some v → ((n : ℕ) → Contains v.numbers n → Contains w.numbers n) → v.spent ≤ w.spent
+  pub signed_all : (s : State (Option (Book O R)) (View O R)) (k : Rule s) (id : ℕ) (v w : View O R) → get_elem? s.views id ≡ some v → ((n : ℕ) → Contains (numbers_of v) n → Contains (numbers_of w) n) → v.spent ≤ w.spent
       → All (λ e. Signed (set s.views id w) (k.now.holder e.pass) e.pass) k.now.log
   signed_all s k id v w at stays spends = let now = k.now in
       All-weaker (λ (e : Entry R). Signed s.views (now.holder e.pass) e.pass) (λ (e : Entry R). Signed (set s.views id w) (now.holder e.pass) e.pass)
@@ -137,7 +137,7 @@ module _ {O R : Type 0} (good : O → R → Type 0) (after : O → R → O) (wei
         behind = omega arith;
         place = place_stays s k next id v w at (not_idle v.stage idle) refl refl (λ l. put_else now.owner now.drawn id now.serving (λ e. omega arith));
         each = all_know after weigh start now next s.views id w k.each
-            (record { begun = known.begun; own = known.own; carried = known.carried; front = known.front }, record { ahead = low; below = omega arith; mine = put_here now.owner now.drawn id; paid = omega arith })
+            (record { begun = known.begun; carried = known.carried; front = known.front }, record { ahead = low; below = omega arith; mine = put_here now.owner now.drawn id; paid = omega arith })
             (λ seat other. drawn_by now id seat other);
       } in
       let P : List ℕ → Type 0 = λ ws. (w' : View O R) × (act : Act (Option (Book O R))) × Valid s.homes me.1 act
@@ -195,7 +195,7 @@ module _ {O R : Type 0} (good : O → R → Type 0) (after : O → R → O) (wei
               behind = k.behind;
               place = inr (w, ap (get_elem? (set s.views id w)) (ap now.owner here ∙ known.1.mine) ∙ set_here s.views id w (at_below s.views id v at), tt);
               each = all_know after weigh start now now s.views id w k.each
-                  (record { begun = known.0.begun; own = known.0.own; carried = known.0.carried; front = known.0.front },
+                  (record { begun = known.0.begun; carried = known.0.carried; front = known.0.front },
                     subst (Queues now id w) (sym here) record { ahead = known.1.ahead; below = known.1.below; mine = known.1.mine; paid = known.1.paid }, refl, refl)
                   (λ seat other. nothing_new now seat);
             },
@@ -226,7 +226,8 @@ module _ {O R : Type 0} (good : O → R → Type 0) (after : O → R → O) (wei
       let q = known.1 in
       let more : List (Entry R) = adds.more in
       let turn : now.owner now.serving ≡ id = ap now.owner (sym known.2) ∙ q.mine in
-      let held = l.carried v.number l.own in
+      let own : Contains (numbers_of v) v.number = (0, omega arith, refl) in
+      let held = l.carried v.number own in
       let next : Moment R = record now { log = now.log ++ more; serving = now.serving + 1 } in
       let entries : c.entries ≡ now.log ++ more = adds.entries ∙ ap (λ (z : Book O R). z.entries ++ more) known.3 in
       let object : c.object ≡ state_of after start (now.log ++ more) = adds.object ∙ (ap (λ (z : Book O R). state_of after z.object more) known.3 ∙ sym (state_more after start now.log more)) in
@@ -244,7 +245,7 @@ module _ {O R : Type 0} (good : O → R → Type 0) (after : O → R → O) (wei
       let sign : Signed (set s.views id w) (now.holder v.number) v.number = (
         w,
         ap (get_elem? (set s.views id w)) held.1 ∙ set_here s.views id w (at_below s.views id v at),
-        l.own,
+        own,
         q.paid,
       ) in
       let P : List ℕ → Type 0 = λ ws. (w' : View O R) × (act : Act (Option (Book O R))) × Valid s.homes ((0, Some c) ∷ []) act
@@ -268,7 +269,7 @@ module _ {O R : Type 0} (good : O → R → Type 0) (after : O → R → O) (wei
           behind = omega arith;
           place = inl (set_here s.homes 0 (some (Some c)) (omega arith) ∙ ap (λ z. some (some (Some z))) whole);
           each = all_know after weigh start now next s.views id w k.each
-              record { begun = l.begun; own = l.own; carried = l.carried; front = subst (λ z. GoesOn z v.numbers (now.log ++ more)) (sym entries) (goes_on_same (now.log ++ more) v.numbers) }
+              record { begun = l.begun; carried = l.carried; front = subst (λ z. GoesOn z (numbers_of v) (now.log ++ more)) (sym entries) (goes_on_same (now.log ++ more) (numbers_of v)) }
               (λ seat other. passed_by now id seat v.number more other turn held.1 adds.mine);
         },
         λ d is. (refl, (let same : c ≡ d = one_book c d is in ap (λ (z : Book O R). record v { stage = Idle; seen = z.entries }) same)),
@@ -292,7 +293,7 @@ module _ {O R : Type 0} (good : O → R → Type 0) (after : O → R → O) (wei
       let a = k.asks in
       let r = k.room in
       let low = k.behind in
-      let fresh : ¬ Contains v.numbers n = λ inside. (let c = known.carried n inside in let l = c.0 in absurd (omega arith)) in
+      let fresh : ¬ Contains (numbers_of v) n = λ inside. (let c = known.carried n inside in let l = c.0 in absurd (omega arith)) in
       let whole = total_less spent_of asks_of (set s.views id w) (λ u. omega arith) in
       let small : (n + 1) % 18446744073709551616 ≡ n + 1 = omega arith in
       let signed = signed_all s k id v w at (λ m c. c) (omega arith) in
@@ -319,7 +320,6 @@ module _ {O R : Type 0} (good : O → R → Type 0) (after : O → R → O) (wei
           each = all_know after weigh start now next s.views id w k.each
               (record {
                 begun = known.begun;
-                own = known.own;
                 carried = λ m inside. let c = known.carried m inside in let l = c.0 in (omega arith, put_else now.holder n id m (λ e. omega arith) ∙ c.1);
                 front = known.front;
               },
@@ -366,7 +366,7 @@ module _ {O R : Type 0} (good : O → R → Type 0) (after : O → R → O) (wei
           room = (let e = total_set spent_of s.views id v w at in let r = k.room in omega arith);
           behind = k.behind;
           place = place_stays s k now id v w at (λ t. subst InTurn both t) refl refl (λ _. refl);
-          each = all_know after weigh start now now s.views id w k.each record { begun = l.begun; own = l.own; carried = l.carried; front = l.front } (λ seat other'. nothing_new now seat);
+          each = all_know after weigh start now now s.views id w k.each record { begun = l.begun; carried = l.carried; front = l.front } (λ seat other'. nothing_new now seat);
         },
         (refl, refl, settled_here now id v v.stage (k.each id v at), (let t = total_one asks_of s.views id v at in let a = k.asks in omega arith)),
       )

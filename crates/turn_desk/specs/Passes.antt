@@ -1,5 +1,5 @@
 -- A desk and a pass as contracts see them.
-use Rattle.std.specs.Prelude.{◌≡◌, ℕ, ◌+◌, ◌<◌, ◌≤◌, List, Option, Some, refl}
+use Rattle.std.specs.Prelude.{◌≡◌, ℕ, ◌+◌, ◌<◌, ◌≤◌, List, ◌∷◌, Option, Some, refl}
 use Rattle.std.specs.Coded.{Coded, code_by, coded×, coded_ℕ, coded_list, coded_option}
 use Rattle.atomic_table.specs.Seated.{TableId, table_id_coded}
 use Rattle.turn_desk.specs.declared.objects.Entry.{Entry}
@@ -10,13 +10,13 @@ pub record DeskView (O : Type 0) : Type 0 where
   pub start : O
   pub limit : ℕ
 
--- which desk a pass is of, the object that this desk was started with, the number of the pass, the numbers that it carries, which are its own and
--- those of the passes joined into it, the asks left and made, and the history that it has seen
+-- which desk a pass is of, the object that this desk was started with, the number of the pass, the numbers of the passes
+-- joined into it, the asks left and spent, and the history that it has seen
 pub record PassView (O R : Type 0) : Type 0 where
   pub table : TableId
   pub start : Option O
   pub number : ℕ
-  pub numbers : List ℕ
+  pub joined : List ℕ
   pub left : ℕ
   pub asked : ℕ
   pub seen : List (Entry R)
@@ -24,3 +24,7 @@ pub record PassView (O R : Type 0) : Type 0 where
 -- the pass is of this desk
 abbrev pub IsOf : {O R : Type 0} → DeskView O → PassView O R → Type 0
 IsOf desk pass = (pass.table ≡ desk.table) × (pass.start ≡ Some desk.start)
+
+-- the numbers that a pass carries
+abbrev pub carried : {O R : Type 0} → PassView O R → List ℕ
+carried pass = pass.number ∷ pass.joined

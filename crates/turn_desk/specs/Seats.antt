@@ -13,7 +13,7 @@ module _ {O R : Type 0} where
     table = s.table_id;
     start = s.me.0.start;
     number = s.me.0.number;
-    numbers = s.me.0.numbers;
+    joined = s.me.0.joined;
     left = s.me.0.left;
     asked = s.me.0.spent;
     seen = s.me.0.seen;

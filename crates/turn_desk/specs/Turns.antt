@@ -38,6 +38,10 @@ pub record Settled {R : Type 0} (one other : List (Entry R)) (numbers others : L
   pub apart : Apart numbers others
 
 module _ {O R : Type 0} where
+  -- its own number, and those of the passes joined into it
+  abbrev pub numbers_of : View O R → List ℕ
+  numbers_of v = v.number ∷ v.joined
+
   abbrev pub asks_of : View O R → ℕ
   asks_of v = v.left + v.spent
 
@@ -55,9 +59,8 @@ module _ {O R : Type 0} where
   -- a pass that was not joined into another one
   pub record Lives (start : O) (now : Moment R) (seat : ℕ) (v : View O R) : Type 0 where
     pub begun : v.start ≡ Some start
-    pub own : Contains v.numbers v.number
-    pub carried : (n : ℕ) → Contains v.numbers n → (n < now.numbers) × (now.holder n ≡ seat)
-    pub front : GoesOn v.seen v.numbers now.log
+    pub carried : (n : ℕ) → Contains (numbers_of v) n → (n < now.numbers) × (now.holder n ≡ seat)
+    pub front : GoesOn v.seen (numbers_of v) now.log
 
   -- the pass drew the ticket t, which is not served yet or is served now
   pub record Queues (now : Moment R) (seat : ℕ) (v : View O R) (t : ℕ) : Type 0 where
@@ -70,13 +73,13 @@ module _ {O R : Type 0} where
   pub record Fresh (now : Moment R) (seat : ℕ) (v : View O R) (n : ℕ) : Type 0 where
     pub below : n < now.numbers
     pub mine : now.holder n ≡ seat
-    pub other : ¬ Contains v.numbers n
+    pub other : ¬ Contains (numbers_of v) n
     pub unused : All (λ e. e.pass ≢ n) now.log
 
   -- two passes that became one
   pub record Both (now : Moment R) (v : View O R) (one other : List (Entry R)) (numbers others : List ℕ) : Type 0 where
-    pub within : (n : ℕ) → Contains numbers n → Contains v.numbers n
-    pub within_too : (n : ℕ) → Contains others n → Contains v.numbers n
+    pub within : (n : ℕ) → Contains numbers n → Contains (numbers_of v) n
+    pub within_too : (n : ℕ) → Contains others n → Contains (numbers_of v) n
     pub longest : v.seen ≡ longer one other
     pub first : GoesOn one numbers now.log
     pub second : GoesOn other others now.log
@@ -97,7 +100,7 @@ module _ {O R : Type 0} where
 
   -- a seat that carries the number n has spent an ask
   abbrev pub Signed : List (View O R) → ℕ → ℕ → Type 0
-  Signed views seat n = (v : View O R) × (get_elem? views seat ≡ some v) × Contains v.numbers n × (0 < v.spent)
+  Signed views seat n = (v : View O R) × (get_elem? views seat ≡ some v) × Contains (numbers_of v) n × (0 < v.spent)
 
   -- the rule
   pub record Kept (good : O → R → Type 0) (after : O → R → O) (weigh : R → ℕ) (start : O) (s : State (Option (Book O R)) (View O R)) : Type 0 where
@@ -114,7 +117,7 @@ module _ {O R : Type 0} where
     pub each : (seat : ℕ) (v : View O R) → get_elem? s.views seat ≡ some v → Knows after weigh start now seat v
 
   abbrev pub first_view : O → View O R
-  first_view start = record { start = Some start; stage = Idle; number = 0; numbers = 0 ∷ []; left = 2 ^ 62; spent = 0; seen = [] }
+  first_view start = record { start = Some start; stage = Idle; number = 0; joined = []; left = 2 ^ 62; spent = 0; seen = [] }
 
   -- a ticket was drawn, for one ask
   abbrev pub drew : At O R → Sat O R → ℕ → Sat O R → Type 0
@@ -122,7 +125,7 @@ module _ {O R : Type 0} where
 
   -- the book that was taken goes on from what was seen
   pub record Taken (good : O → R → Type 0) (after : O → R → O) (weigh : R → ℕ) (start : O) (v : View O R) (b : Book O R) : Type 0 where
-    pub front : GoesOn v.seen v.numbers b.entries
+    pub front : GoesOn v.seen (numbers_of v) b.entries
     pub good_all : AllGood good start b.entries
     pub whole : b ≡ book_of after weigh start b.entries
 
@@ -151,7 +154,7 @@ module _ {O R : Type 0} where
 
   -- a number was drawn, for one ask
   abbrev pub numbered : At O R → Sat O R → ℕ → Sat O R → Type 0
-  numbered st m n m' = (m'.1 ≡ m.1) × (m'.0 ≡ record m.0 { stage = Numbered n; left = m.0.left - 1; spent = m.0.spent + 1 }) × (n ≤ 2 ^ 62) × (¬ Contains m.0.numbers n) × All (λ e. e.pass ≢ n) m.0.seen
+  numbered st m n m' = (m'.1 ≡ m.1) × (m'.0 ≡ record m.0 { stage = Numbered n; left = m.0.left - 1; spent = m.0.spent + 1 }) × (n ≤ 2 ^ 62) × (¬ Contains (numbers_of m.0) n) × All (λ e. e.pass ≢ n) m.0.seen
 
   abbrev pub SettledAt : Stage O R → Type 0
   SettledAt (Joined one other numbers others) = Settled one other numbers others
@@ -174,7 +177,7 @@ module _ {O R : Type 0} where
     start = v.start;
     stage = Idle;
     number = number_in v.stage;
-    numbers = number_in v.stage ∷ [];
+    joined = [];
     left = amount;
     spent = 0;
     seen = v.seen;
@@ -184,13 +187,13 @@ module _ {O R : Type 0} where
   abbrev pub joined : View O R → View O R → View O R
   joined v w = record {
     start = v.start;
-    stage = Joined v.seen w.seen v.numbers w.numbers;
+    stage = Joined v.seen w.seen (numbers_of v) (numbers_of w);
     number = v.number;
-    numbers = v.numbers ++ w.numbers;
+    joined = v.joined ++ numbers_of w;
     left = v.left + w.left;
     spent = v.spent + w.spent;
     seen = longer v.seen w.seen;
   }
 
   abbrev pub gone : View O R
-  gone = record { start = None; stage = Gone; number = 0; numbers = []; left = 0; spent = 0; seen = [] }
+  gone = record { start = None; stage = Gone; number = 0; joined = []; left = 0; spent = 0; seen = [] }

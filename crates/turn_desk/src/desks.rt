@@ -1,7 +1,7 @@
-ghost use Rattle.std.specs.Prelude.{◌≡◌, ◌≢◌, ◌↔◌, ℕ, ◌+◌, ◌-◌, ◌^◌, ◌<◌, ◌≤◌, [], ◌∷◌, ◌++◌, All, Contains, IfOk, IfErr, OnOk, OnErr, Some, Err};
+ghost use Rattle.std.specs.Prelude.{◌≡◌, ◌≢◌, ◌↔◌, ℕ, ◌+◌, ◌-◌, ◌^◌, ◌<◌, ◌≤◌, [], ◌∷◌, ◌++◌, All, Contains, IfOk, IfErr, OnOk, OnErr, MatchResult, Some, Err};
 ghost use Rattle.turn_desk.specs.Asks.{EndsWith};
 ghost use Rattle.turn_desk.specs.Histories.{state_of, reply_at, requests_of, weight_of, AllGood, GoesOn, longer, Apart};
-ghost use Rattle.turn_desk.specs.Passes.{IsOf};
+ghost use Rattle.turn_desk.specs.Passes.{IsOf, carried};
 
 use crate::faults::AskFault;
 use crate::objects::{Entry, Object};
@@ -41,7 +41,7 @@ impl<O: Object> Desk<O> {
     pub fn start(alloc: Global, object: O, limit: u64) -> Result<(Desk<O>, Pass<O>), Memory>
         requires { limit ≤ 2 ^ 62 }
         ensures desk { IfOk result (λ r. (r.0.start ≡ object) × (r.0.limit ≡ limit)) }
-        ensures pass { IfOk result (λ r. r.1 ≡ record { table = r.0.table; start = Some r.0.start; number = 0; numbers = 0 ∷ []; left = 2 ^ 62; asked = 0; seen = [] }) }
+        ensures pass { IfOk result (λ r. r.1 ≡ record { table = r.0.table; start = Some r.0.start; number = 0; joined = []; left = 2 ^ 62; asked = 0; seen = [] }) }
     {
         let mut slots = Vec::new(alloc);
         slots.reserve(1)?;
@@ -74,10 +74,11 @@ impl<O: Object> Desk<O> {
         requires request { O.good self.now.start request }
         ensures pass { pass.new ≡ record pass.old { left = pass.new.left; asked = pass.new.asked; seen = pass.new.seen } }
         ensures spent { (pass.new.left ≡ pass.old.left - 1) × (pass.new.left + pass.new.asked ≡ pass.old.left + pass.old.asked) }
-        ensures entry { OnOk result (EndsWith pass.old.seen pass.old.numbers (record { pass = pass.old.number; request = request }) pass.new.seen) }
+        ensures entry { OnOk result (EndsWith pass.old.seen (carried pass.old) (record { pass = pass.old.number; request = request }) pass.new.seen) }
         ensures reply { IfOk result (λ r. reply_at O.after O.answer self.now.start pass.new.seen ≡ Some r) }
         ensures within { OnOk result (weight_of O.weigh pass.new.seen ≤ self.now.limit) }
-        ensures others { OnErr result (GoesOn pass.old.seen pass.old.numbers pass.new.seen) }
+        ensures others { OnErr result (GoesOn pass.old.seen (carried pass.old) pass.new.seen) }
+        ensures own { MatchResult result (λ _. requests_of pass.old.number pass.new.seen ≡ requests_of pass.old.number pass.old.seen ++ request ∷ []) (λ _. requests_of pass.old.number pass.new.seen ≡ requests_of pass.old.number pass.old.seen) }
         ensures worn { (result ≡ Err AskFault.Worn) ↔ (pass.old.left ≡ 0) }
         ensures same { result ≡ Err AskFault.Worn → pass.new ≡ pass.old }
         ensures full { (bytes : ℕ) → result ≡ Err (AskFault.Full bytes) → (bytes ≡ weight_of O.weigh pass.new.seen) × (self.now.limit < bytes + O.weigh request) }
@@ -101,8 +102,8 @@ impl<O: Object> Desk<O> {
         requires pass { IsOf self.now pass.old }
         requires asks { asks < pass.old.left }
         ensures kept { pass.new ≡ record pass.old { left = pass.old.left - (asks + 1); asked = pass.old.asked + 1 } }
-        ensures given { result ≡ record pass.old { number = result.number; numbers = result.number ∷ []; left = asks; asked = 0 } }
-        ensures number { (result.number ≤ 2 ^ 62) × ¬ Contains pass.old.numbers result.number }
+        ensures given { result ≡ record pass.old { number = result.number; joined = []; left = asks; asked = 0 } }
+        ensures number { (result.number ≤ 2 ^ 62) × ¬ Contains (carried pass.old) result.number }
         ensures none { requests_of result.number result.seen ≡ [] }
     {
         let shared = &self.table.shared;
@@ -122,10 +123,10 @@ impl<O: Object> Desk<O> {
     pub fn join(&self, pass: &mut Pass<O>, other: Pass<O>)
         requires pass { IsOf self.now pass.old }
         requires other { IsOf self.now other }
-        ensures pass { pass.new ≡ record pass.old { numbers = pass.old.numbers ++ other.numbers; left = pass.old.left + other.left; asked = pass.old.asked + other.asked; seen = longer pass.old.seen other.seen } }
-        ensures first { GoesOn pass.old.seen pass.old.numbers pass.new.seen }
-        ensures second { GoesOn other.seen other.numbers pass.new.seen }
-        ensures apart { Apart pass.old.numbers other.numbers }
+        ensures pass { pass.new ≡ record pass.old { joined = pass.old.joined ++ carried other; left = pass.old.left + other.left; asked = pass.old.asked + other.asked; seen = longer pass.old.seen other.seen } }
+        ensures first { GoesOn pass.old.seen (carried pass.old) pass.new.seen }
+        ensures second { GoesOn other.seen (carried other) pass.new.seen }
+        ensures apart { Apart (carried pass.old) (carried other) }
     {
         let Holder {
             seat,
@@ -146,7 +147,7 @@ impl<O: Object> Desk<O> {
         requires all { pass.left + pass.asked ≡ 2 ^ 62 }
         ensures history { result.1 ≡ pass.seen }
         ensures state { result.0 ≡ state_of O.after self.start pass.seen }
-        ensures numbers { All (λ e. Contains pass.numbers e.pass) pass.seen }
+        ensures numbers { All (λ e. Contains (carried pass) e.pass) pass.seen }
         ensures good { AllGood O.good self.start pass.seen }
     {
         let Desk { table, limit: _ } = self;

@@ -4,7 +4,7 @@ ghost use Rattle.turn_desk.specs.declared.views.Stage.TheVariants.{Idle, Waits, 
 ghost use Rattle.turn_desk.specs.Asks.{EndsWith};
 ghost use Rattle.turn_desk.specs.Faults.{NotMade};
 ghost use Rattle.turn_desk.specs.Histories.{reply_at, weight_of, AllGood, GoesOn};
-ghost use Rattle.turn_desk.specs.Turns.{Adds, Taken};
+ghost use Rattle.turn_desk.specs.Turns.{Adds, Taken, numbers_of};
 
 use crate::books::answer;
 use crate::faults::AskFault;
@@ -72,10 +72,10 @@ pub(crate) fn ask_in_turn<O: Object, R: Wait>(
     ensures table { seat.new.table_id ≡ seat.old.table_id }
     ensures seat { seat.new.me ≡ (record seat.old.me.0 { left = seat.old.me.0.left - 1; spent = seat.old.me.0.spent + 1; seen = seat.new.me.0.seen }, []) }
     ensures good { AllGood O.good shared.now.key.value seat.new.me.0.seen }
-    ensures entry { OnOk result (EndsWith seat.old.me.0.seen seat.old.me.0.numbers entry seat.new.me.0.seen) }
+    ensures entry { OnOk result (EndsWith seat.old.me.0.seen (numbers_of seat.old.me.0) entry seat.new.me.0.seen) }
     ensures reply { IfOk result (λ r. reply_at O.after O.answer shared.now.key.value seat.new.me.0.seen ≡ Some r) }
     ensures within { OnOk result (weight_of O.weigh seat.new.me.0.seen ≤ limit) }
-    ensures others { OnErr result (GoesOn seat.old.me.0.seen seat.old.me.0.numbers seat.new.me.0.seen) }
+    ensures others { OnErr result (GoesOn seat.old.me.0.seen (numbers_of seat.old.me.0) seat.new.me.0.seen) }
     ensures fault { IfErr result (NotMade (weight_of O.weigh seat.new.me.0.seen) (limit < weight_of O.weigh seat.new.me.0.seen + O.weigh entry.request)) }
 {
     let ticket = shared.fetch_add::<Draw>(seat, 0, 1);

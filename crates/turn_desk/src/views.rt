@@ -33,8 +33,8 @@ pub struct View<O, R> {
     pub start: Option<O>,
     pub stage: Stage<O, R>,
     pub number: u64,
-    /// Its own number, and the numbers of the passes joined into it.
-    pub numbers: LinkedList<u64>,
+    /// The numbers of the passes joined into it.
+    pub joined: LinkedList<u64>,
     pub left: u64,
     pub spent: u64,
     /// The history that it has seen.

@@ -1,6 +1,7 @@
 use Rattle.std.proofs.Common.{rules, ◌≡◌, IfOk, OnOk, OnErr, Some, sym, ap, ◌∙◌, subst}
 use Rattle.turn_desk.specs.Asks.{EndsWith}
 use Rattle.turn_desk.specs.Histories.{reply_at, AllGood, GoesOn}
+use Rattle.turn_desk.specs.Turns.{numbers_of}
 use Rattle.turn_desk.proofs.Steps.{draws}
 use Rattle.turn_desk.proofs.Answered.{front_of, adds, good_here, all_good, ends_with, goes_on, replies}
 use Rattle.turn_desk.proofs.turns.ask_in_turn.Goals as goal
@@ -36,9 +37,9 @@ pub returns-clause-entry : goal.returns-clause-entry
 returns-clause-entry g c =
     let drew = c.fetch_add-ticket.ensures.2 in
     let a = c.answer-book.ensures in
-    let front = front_of _ c.args.seat.now.me.0.seen _ _ c.args.seat.now.me.0.numbers (ap (λ v. v.seen) drew.1) (ap (λ v. v.numbers) drew.1) c.take_turn-taken.ensures.book.front in
-    subst (λ l. OnOk c.answer-book.result.1 (EndsWith c.args.seat.now.me.0.seen c.args.seat.now.me.0.numbers c.args.entry l)) (sym (ap (λ m. m.0.seen) c.pass_on.ensures.seat))
-    (ends_with g.O.Object.good g.O.Object.after g.O.Object.weigh c.args.shared.now.key.value c.take_turn-taken.result c.answer-book.result.0 c.args.entry c.answer-book.result.1 _ _ front a.book)
+    let front = front_of _ c.args.seat.now.me.0.seen _ _ (numbers_of c.args.seat.now.me.0) (ap (λ v. v.seen) drew.1) (ap numbers_of drew.1) c.take_turn-taken.ensures.book.front in
+    subst (λ l. OnOk c.answer-book.result.1 (EndsWith c.args.seat.now.me.0.seen (numbers_of c.args.seat.now.me.0) c.args.entry l)) (sym (ap (λ m. m.0.seen) c.pass_on.ensures.seat))
+    (ends_with g.O.Object.good g.O.Object.after g.O.Object.weigh c.args.shared.now.key.value c.take_turn-taken.result c.answer-book.result.0 c.args.entry c.answer-book.result.1 _ (numbers_of c.args.seat.now.me.0) front a.book)
 
 pub returns-clause-reply : goal.returns-clause-reply
 returns-clause-reply g c =
@@ -51,6 +52,6 @@ pub returns-clause-others : goal.returns-clause-others
 returns-clause-others g c =
     let drew = c.fetch_add-ticket.ensures.2 in
     let a = c.answer-book.ensures in
-    let front = front_of _ c.args.seat.now.me.0.seen _ _ c.args.seat.now.me.0.numbers (ap (λ v. v.seen) drew.1) (ap (λ v. v.numbers) drew.1) c.take_turn-taken.ensures.book.front in
-    subst (λ l. OnErr c.answer-book.result.1 (GoesOn c.args.seat.now.me.0.seen c.args.seat.now.me.0.numbers l)) (sym (ap (λ m. m.0.seen) c.pass_on.ensures.seat))
-    (goes_on g.O.Object.good g.O.Object.after g.O.Object.weigh c.args.shared.now.key.value c.take_turn-taken.result c.answer-book.result.0 c.answer-book.result.1 _ _ front a.same)
+    let front = front_of _ c.args.seat.now.me.0.seen _ _ (numbers_of c.args.seat.now.me.0) (ap (λ v. v.seen) drew.1) (ap numbers_of drew.1) c.take_turn-taken.ensures.book.front in
+    subst (λ l. OnErr c.answer-book.result.1 (GoesOn c.args.seat.now.me.0.seen (numbers_of c.args.seat.now.me.0) l)) (sym (ap (λ m. m.0.seen) c.pass_on.ensures.seat))
+    (goes_on g.O.Object.good g.O.Object.after g.O.Object.weigh c.args.shared.now.key.value c.take_turn-taken.result c.answer-book.result.0 c.answer-book.result.1 _ (numbers_of c.args.seat.now.me.0) front a.same)

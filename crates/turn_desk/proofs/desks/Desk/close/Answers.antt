@@ -3,6 +3,7 @@ use Rattle.std.specs.Prelude.{IsSome, All, Contains}
 use mathlib.Core.Option.{some-injective}
 use Rattle.turn_desk.specs.declared.views.Book.{Book}
 use Rattle.turn_desk.specs.Histories.{state_of, AllGood}
+use Rattle.turn_desk.specs.Passes.{carried}
 use Rattle.turn_desk.specs.Turns.{book_of}
 use Rattle.turn_desk.proofs.Dividing.{Ended, ends}
 use Rattle.turn_desk.proofs.desks.Desk.close.Goals as goal
@@ -33,7 +34,7 @@ pub returns-clause-numbers : goal.returns-clause-numbers
 returns-clause-numbers g c =
     let all = ap (λ p. p.left + p.asked) c.pass.view_is ∙ c.requires.all in
     let end = ends g.O.Object.good g.O.Object.after g.O.Object.weigh _ _ _ _ _ c.pass.invariant.stage all c.close_with-closed.ensures.values.2 in
-    subst (λ p. All (λ e. Contains p.numbers e.pass) p.seen) c.pass.view_is end.signed
+    subst (λ p. All (λ e. Contains (carried p) e.pass) p.seen) c.pass.view_is end.signed
 
 pub returns-clause-good : goal.returns-clause-good
 returns-clause-good g c =
