@@ -18,6 +18,7 @@ use std::snapshot::Snapshot;
 use std::sync::Wait;
 
 /// One object that many threads ask in turn. It keeps one history of all that was asked.
+#[derive(Drop)]
 pub struct Desk<O: Object> {
     table: Words<O>,
     limit: u64,

@@ -9,6 +9,8 @@ mod passes;
 mod plays;
 mod splits;
 mod turns;
+#[cfg(test)]
+mod tests;
 mod views;
 
 pub use desks::Desk;
