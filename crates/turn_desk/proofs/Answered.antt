@@ -1,5 +1,5 @@
 -- What an answer in a turn makes of the book, and of the history.
-use Rattle.std.proofs.Common.{◌≡◌, ℕ, ◌+◌, ◌<◌, ◌≤◌, List, [], ◌∷◌, ◌++◌, sym, refl, ap, ◌∙◌, subst, arith, append-nil, append_assoc, Option, Some, Result, Ok, Err, IfOk, IfErr, OnOk, OnErr, MatchResult}
+use Rattle.std.proofs.Common.{◌≡◌, ℕ, ◌+◌, ◌<◌, ◌≤◌, List, [], ◌∷◌, ◌++◌, sym, refl, ap, ◌∙◌, subst, arith, append-nil, append_assoc, Option, Some, Result, Ok, Err, IfOk, IfErr, OnOk, OnErr}
 use Rattle.std.specs.Prelude.{All, Contains}
 use Rattle.std.proofs.lemmas.List.Elements.{All-nil, All-push}
 use Rattle.turn_desk.specs.declared.objects.Entry.{Entry}
@@ -7,7 +7,7 @@ use Rattle.turn_desk.specs.declared.views.Book.{Book}
 use Rattle.turn_desk.specs.declared.faults.AskFault.{AskFault}
 use Rattle.turn_desk.specs.Asks.{EndsWith}
 use Rattle.turn_desk.specs.Histories.{state_of, reply_at, weight_of, AllGood, NoneOf, GoesOn, requests_of}
-use Rattle.turn_desk.specs.Turns.{Taken, Adds}
+use Rattle.turn_desk.specs.Turns.{Taken, Adds, grown}
 use Rattle.turn_desk.specs.declared.views.View.{View}
 use Rattle.turn_desk.proofs.Lists.{reply_last, good_at, requests_same, requests_one}
 
@@ -17,7 +17,7 @@ front_of seen before log carried numbers p q g = subst (λ (z : List (Entry _)).
 module _ {O R : Type 0} (good : O → R → Type 0) (after : O → R → O) (weigh : R → ℕ) (start : O) where
   -- one more entry of the pass
   adds_one : (b : Book O R) (e : Entry R) (n : ℕ) → e.pass ≡ n → good start e.request
-      → Adds good after weigh start n b record { object = after b.object e.request; entries = b.entries ++ e ∷ []; weight = b.weight + weigh e.request }
+      → Adds good after weigh start n b (grown after weigh b e)
   adds_one b e n is g = record {
     more = e ∷ [];
     entries = refl;
@@ -42,17 +42,17 @@ module _ {O R : Type 0} (good : O → R → Type 0) (after : O → R → O) (wei
 
 module _ {O R A : Type 0} (good : O → R → Type 0) (after : O → R → O) (weigh : R → ℕ) (start : O) where
   pub adds : (b c : Book O R) (e : Entry R) (n : ℕ) (r : Result A AskFault) → e.pass ≡ n → good start e.request
-      → OnOk r (c ≡ record { object = after b.object e.request; entries = b.entries ++ e ∷ []; weight = b.weight + weigh e.request }) → OnErr r (c ≡ b) → Adds good after weigh start n b c
+      → OnOk r (c ≡ grown after weigh b e) → OnErr r (c ≡ b) → Adds good after weigh start n b c
   adds b c e n (Ok x) is g ok same = subst (Adds good after weigh start n b) (sym ok) (adds_one good after weigh start b e n is g)
   adds b c e n (Err f) is g ok same = subst (Adds good after weigh start n b) (sym same) (adds_none good after weigh start b n)
 
   pub all_good : (b c : Book O R) (e : Entry R) (r : Result A AskFault) → AllGood good start b.entries → good start e.request
-      → OnOk r (c ≡ record { object = after b.object e.request; entries = b.entries ++ e ∷ []; weight = b.weight + weigh e.request }) → OnErr r (c ≡ b) → AllGood good start c.entries
+      → OnOk r (c ≡ grown after weigh b e) → OnErr r (c ≡ b) → AllGood good start c.entries
   all_good b c e (Ok x) all g ok same = subst (λ (z : Book O R). AllGood good start z.entries) (sym ok) (All-push (λ (y : Entry R). good start y.request) b.entries e all g)
   all_good b c e (Err f) all g ok same = subst (λ (z : Book O R). AllGood good start z.entries) (sym same) all
 
   pub ends_with : (b c : Book O R) (e : Entry R) (r : Result A AskFault) (before : List (Entry R)) (numbers : List ℕ) → GoesOn before numbers b.entries
-      → OnOk r (c ≡ record { object = after b.object e.request; entries = b.entries ++ e ∷ []; weight = b.weight + weigh e.request }) → OnOk r (EndsWith before numbers e c.entries)
+      → OnOk r (c ≡ grown after weigh b e) → OnOk r (EndsWith before numbers e c.entries)
   ends_with b c e (Ok x) before numbers g ok = (g.0, ap (λ (z : Book O R). z.entries) ok ∙ ap (λ l. l ++ e ∷ []) g.1, g.2)
   ends_with b c e (Err f) before numbers g ok = tt
 
@@ -61,14 +61,19 @@ module _ {O R A : Type 0} (good : O → R → Type 0) (after : O → R → O) (w
   goes_on b c (Err f) before numbers g same = subst (λ (z : Book O R). GoesOn before numbers z.entries) (sym same) g
 
   pub replies : (answer : O → R → A) (v : View O R) (b c : Book O R) (e : Entry R) (r : Result A AskFault) → Taken good after weigh start v b → IfOk r (λ x. x ≡ answer b.object e.request)
-      → OnOk r (c ≡ record { object = after b.object e.request; entries = b.entries ++ e ∷ []; weight = b.weight + weigh e.request }) → IfOk r (λ x. reply_at after answer start c.entries ≡ Some x)
+      → OnOk r (c ≡ grown after weigh b e) → IfOk r (λ x. reply_at after answer start c.entries ≡ Some x)
   replies answer v b c e (Ok x) taken is ok =
       ap (λ (z : Book O R). reply_at after answer start z.entries) ok ∙ (reply_last after answer start b.entries e ∙ ap (λ z. Some z) (ap (λ (z : Book O R). answer z.object e.request) (sym taken.whole) ∙ sym is))
   replies answer v b c e (Err f) taken is ok = tt
 
 module _ {R A : Type 0} where
   -- the pass's own requests are as before, with this one where it was answered
-  pub own_requests : (e : Entry R) (joined : List ℕ) (before seen : List (Entry R)) (r : Result A AskFault) → OnOk r (EndsWith before (e.pass ∷ joined) e seen) → OnErr r (GoesOn before (e.pass ∷ joined) seen)
-      → MatchResult r (λ _. requests_of e.pass seen ≡ requests_of e.pass before ++ e.request ∷ []) (λ _. requests_of e.pass seen ≡ requests_of e.pass before)
-  own_requests e joined before seen (Ok x) one none = requests_one joined before seen e one
-  own_requests e joined before seen (Err f) one none = requests_same e.pass joined before seen none
+  pub own_more : (e : Entry R) (joined : List ℕ) (before seen : List (Entry R)) (r : Result A AskFault) → OnOk r (EndsWith before (e.pass ∷ joined) e seen)
+      → OnOk r (requests_of e.pass seen ≡ requests_of e.pass before ++ e.request ∷ [])
+  own_more e joined before seen (Ok x) one = requests_one joined before seen e one
+  own_more e joined before seen (Err f) one = tt
+
+  pub own_same : (number : ℕ) (joined : List ℕ) (before seen : List (Entry R)) (r : Result A AskFault) → OnErr r (GoesOn before (number ∷ joined) seen)
+      → OnErr r (requests_of number seen ≡ requests_of number before)
+  own_same number joined before seen (Ok x) others = tt
+  own_same number joined before seen (Err f) others = requests_same number joined before seen others

@@ -94,14 +94,18 @@ module _ {O R : Type 0} (good : O → R → Type 0) (after : O → R → O) (wei
       let unused : All (λ e. e.pass ≢ n) now.log = f.unused in
       let place = place_stays good after weigh start s k next id v w at (λ t. subst InTurn stage t) refl refl (λ _. refl) in
       let each = all_know after weigh start now next s.views id w k.each
-          record { begun = l.begun; carried = λ i inside. let c = l.carried i inside in (c.0, put_else now.holder n last i (λ e. f.other (subst (Contains (numbers_of v)) e inside)) ∙ c.1); front = l.front }
-          (λ seat other. handed_by now id seat n last other f.mine) in
+      record { begun = l.begun; carried = λ i inside. let c = l.carried i inside in (c.0, put_else now.holder n last i (λ e. f.other (subst (Contains (numbers_of v)) e inside)) ∙ c.1); front = l.front }
+      (λ seat other. handed_by now id seat n last other f.mine) in
       let g = l.front in
       let new : Lives start next last u = record {
         begun = l.begun;
         carried = λ i inside. let is : i ≡ n = sym (contains_one m i inside) ∙ m_is in let b = f.below in (omega arith, ap (put now.holder n last) is ∙ put_here now.holder n last);
-        front = (g.0, g.1, All-weaker (λ (e : Entry R). e.pass ≢ n) (λ (e : Entry R). ¬ Contains (m ∷ []) e.pass) (λ e other inside. other (sym (contains_one m e.pass inside) ∙ m_is)) g.0
-            (all_right (λ (e : Entry R). e.pass ≢ n) v.seen g.0 (subst (λ z. All (λ e. e.pass ≢ n) z) g.1 unused)));
+        front = (
+          g.0,
+          g.1,
+          All-weaker (λ (e : Entry R). e.pass ≢ n) (λ (e : Entry R). ¬ Contains (m ∷ []) e.pass) (λ e other inside. other (sym (contains_one m e.pass inside) ∙ m_is)) g.0
+              (all_right (λ (e : Entry R). e.pass ≢ n) v.seen g.0 (subst (λ z. All (λ e. e.pass ≢ n) z) g.1 unused)),
+        );
       } in record {
         now = next;
         words = k.words;
@@ -138,8 +142,8 @@ module _ {O R : Type 0} (good : O → R → Type 0) (after : O → R → O) (wei
       let r = k.room in
       let one = united v.seen w.seen (numbers_of v) (numbers_of w) now.log l.front l'.front in
       let carried : (n : ℕ) → Contains ((numbers_of v) ++ (numbers_of w)) n → (n < now.numbers) × (next.holder n ≡ id) = λ n inside. ⊎_elim
-          (λ (x : Contains (numbers_of v) n). let c = l.carried n x in (c.0, moved_else now.holder other id n (λ e. apart (sym e ∙ c.1)) ∙ c.1))
-          (λ (x : Contains (numbers_of w) n). let c = l'.carried n x in (c.0, moved_there now.holder other id n c.1)) (Contains-append_cases (numbers_of v) (numbers_of w) n inside) in
+      (λ (x : Contains (numbers_of v) n). let c = l.carried n x in (c.0, moved_else now.holder other id n (λ e. apart (sym e ∙ c.1)) ∙ c.1))
+      (λ (x : Contains (numbers_of w) n). let c = l'.carried n x in (c.0, moved_there now.holder other id n c.1)) (Contains-append_cases (numbers_of v) (numbers_of w) n inside) in
       let mine : Lives start next id b = record { begun = l.begun; carried = carried; front = one.2 } in
       let both : Both next b v.seen w.seen (numbers_of v) (numbers_of w) = record {
         within = λ n c. Contains-append_left (numbers_of v) (numbers_of w) n c;
@@ -159,29 +163,32 @@ module _ {O R : Type 0} (good : O → R → Type 0) (after : O → R → O) (wei
             let old : Signed s.views (now.holder e.pass) e.pass = k.signed i d within in
             dite (ℕ_discrete (now.holder e.pass) other)
             (λ is.
-                let same : old.0 ≡ w = some-injective old.0 w (sym old.1 ∙ (ap (get_elem? s.views) is ∙ there)) in
-                let paid = ap (λ (z : View O R). z.spent) same in
-                let before = old.3 in
-                subst (λ (seat : ℕ). Signed (set views other gone) seat e.pass) (sym (moved_there now.holder other id e.pass is))
-                (b, set_else views other id gone (λ z. apart (sym z)) ∙ set_here s.views id b (at_below s.views id v at),
-                  Contains-append_right (numbers_of v) (numbers_of w) e.pass (subst (λ (z : View O R). Contains (numbers_of z) e.pass) same old.2), omega arith))
+            let same : old.0 ≡ w = some-injective old.0 w (sym old.1 ∙ (ap (get_elem? s.views) is ∙ there)) in
+            let paid = ap (λ (z : View O R). z.spent) same in
+            let before = old.3 in
+            subst (λ (seat : ℕ). Signed (set views other gone) seat e.pass) (sym (moved_there now.holder other id e.pass is)) (
+              b,
+              set_else views other id gone (λ z. apart (sym z)) ∙ set_here s.views id b (at_below s.views id v at),
+              Contains-append_right (numbers_of v) (numbers_of w) e.pass (subst (λ (z : View O R). Contains (numbers_of z) e.pass) same old.2),
+              omega arith,
+            ))
             (λ not.
-                let mid : Signed views (now.holder e.pass) e.pass = signed_stays s.views id v b at (λ n c. Contains-append_left (numbers_of v) (numbers_of w) n c) (omega arith) (now.holder e.pass) e.pass old in
-                subst (λ (seat : ℕ). Signed (set views other gone) seat e.pass) (sym (moved_else now.holder other id e.pass not))
-                (mid.0, set_else views other (now.holder e.pass) gone not ∙ mid.1, mid.2, mid.3));
+            let mid : Signed views (now.holder e.pass) e.pass = signed_stays s.views id v b at (λ n c. Contains-append_left (numbers_of v) (numbers_of w) n c) (omega arith) (now.holder e.pass) e.pass old in
+            subst (λ (seat : ℕ). Signed (set views other gone) seat e.pass) (sym (moved_else now.holder other id e.pass not))
+            (mid.0, set_else views other (now.holder e.pass) gone not ∙ mid.1, mid.2, mid.3));
         asks = omega arith;
         room = omega arith;
         behind = k.behind;
         place = ⊎_elim (λ (home : get_elem? s.homes 0 ≡ some (some (Some (book_of after weigh start now.log)))). inl home)
             (λ (away : (x : View O R) × (get_elem? s.views (now.owner now.serving) ≡ some x) × InTurn x.stage).
-                let turn : ℕ = now.owner now.serving in
-                let off : (j : ℕ) (x : View O R) → get_elem? s.views j ≡ some x → x.stage ≡ Idle → turn ≢ j = λ j x e is z.
-                    not_idle good after weigh start x.stage is (subst (λ (y : View O R). InTurn y.stage) (some-injective away.0 x (sym away.1 ∙ (ap (get_elem? s.views) z ∙ e))) away.2) in
-                inr (away.0, set_else views other turn gone (off other w there idle') ∙ (set_else s.views id turn b (off id v at idle) ∙ away.1), away.2)) k.place;
+            let turn : ℕ = now.owner now.serving in
+            let off : (j : ℕ) (x : View O R) → get_elem? s.views j ≡ some x → x.stage ≡ Idle → turn ≢ j = λ j x e is z.
+            not_idle good after weigh start x.stage is (subst (λ (y : View O R). InTurn y.stage) (some-injective away.0 x (sym away.1 ∙ (ap (get_elem? s.views) z ∙ e))) away.2) in
+            inr (away.0, set_else views other turn gone (off other w there idle') ∙ (set_else s.views id turn b (off id v at idle) ∙ away.1), away.2)) k.place;
         each = λ seat x e. ⊎_elim (λ (t : (seat ≡ other) × (gone ≡ x)). subst (λ (z : View O R). Knows after weigh start next seat z) t.1 (refl, refl))
             (λ (t : (seat ≢ other) × (get_elem? views seat ≡ some x)). ⊎_elim
-                (λ (y : (seat ≡ id) × (b ≡ x)). subst (λ (z : ℕ × View O R). Knows after weigh start next z.0 z.1) (λ i. (sym y.0 i, y.1 i)) (mine, both))
-                (λ (y : (seat ≢ id) × (get_elem? s.views seat ≡ some x)). others_know now next seat x (moved_by now id other seat t.0) after weigh start (k.each seat x y.1)) (at_set s.views id seat b x t.1))
+            (λ (y : (seat ≡ id) × (b ≡ x)). subst (λ (z : ℕ × View O R). Knows after weigh start next z.0 z.1) (λ i. (sym y.0 i, y.1 i)) (mine, both))
+            (λ (y : (seat ≢ id) × (get_elem? s.views seat ≡ some x)). others_know now next seat x (moved_by now id other seat t.0) after weigh start (k.each seat x y.1)) (at_set s.views id seat b x t.1))
             (at_set views other seat gone x e);
       }
 
@@ -199,17 +206,17 @@ module _ {O R : Type 0} (good : O → R → Type 0) (after : O → R → O) (wei
       let now = k.now in
       let l : Lives start now id v = subst (KnowsAt after weigh start now id v) idle (k.each id v at) in
       let none_else : (j : ℕ) (u : View O R) → get_elem? s.views j ≡ some u → 0 < u.spent → j ≡ id = λ j u e paid. dite (ℕ_discrete j id) (λ is. is)
-          (λ not. let t = total_two asks_of s.views j id u v not e at in let a = k.asks in absurd (omega arith)) in
+      (λ not. let t = total_two asks_of s.views j id u v not e at in let a = k.asks in absurd (omega arith)) in
       let signed : All (λ e. Contains (numbers_of v) e.pass) now.log = All-weaker (λ (e : Entry R). Signed s.views (now.holder e.pass) e.pass) (λ (e : Entry R). Contains (numbers_of v) e.pass)
-          (λ e sign. let is = none_else (now.holder e.pass) sign.0 sign.1 sign.3 in
-              let same : sign.0 ≡ v = some-injective sign.0 v (sym sign.1 ∙ (ap (get_elem? s.views) is ∙ at)) in subst (λ (z : View O R). Contains (numbers_of z) e.pass) same sign.2) now.log k.signed in
+      (λ e sign. let is = none_else (now.holder e.pass) sign.0 sign.1 sign.3 in
+      let same : sign.0 ≡ v = some-injective sign.0 v (sym sign.1 ∙ (ap (get_elem? s.views) is ∙ at)) in subst (λ (z : View O R). Contains (numbers_of z) e.pass) same sign.2) now.log k.signed in
       let whole : now.log ≡ v.seen = nothing_after v.seen now.log (numbers_of v) l.front.0 l.front.1 l.front.2 signed in
       let home : get_elem? s.homes 0 ≡ some (some (Some (book_of after weigh start now.log))) = ⊎_elim (λ h. h)
-          (λ (away : (x : View O R) × (get_elem? s.views (now.owner now.serving) ≡ some x) × InTurn x.stage).
-              let paid = turn_paid now (now.owner now.serving) away.0 away.0.stage away.2 (k.each (now.owner now.serving) away.0 away.1) in
-              let is = none_else (now.owner now.serving) away.0 away.1 paid in
-              let same : away.0 ≡ v = some-injective away.0 v (sym away.1 ∙ (ap (get_elem? s.views) is ∙ at)) in
-              absurd (not_idle good after weigh start v.stage idle (subst (λ (z : View O R). InTurn z.stage) same away.2))) k.place in record {
+      (λ (away : (x : View O R) × (get_elem? s.views (now.owner now.serving) ≡ some x) × InTurn x.stage).
+      let paid = turn_paid now (now.owner now.serving) away.0 away.0.stage away.2 (k.each (now.owner now.serving) away.0 away.1) in
+      let is = none_else (now.owner now.serving) away.0 away.1 paid in
+      let same : away.0 ≡ v = some-injective away.0 v (sym away.1 ∙ (ap (get_elem? s.views) is ∙ at)) in
+      absurd (not_idle good after weigh start v.stage idle (subst (λ (z : View O R). InTurn z.stage) same away.2))) k.place in record {
         book = final.4 0 (Some (book_of after weigh start now.log)) home ∙ ap (λ z. some (Some (book_of after weigh start z))) whole;
         good_all = subst (AllGood good start) whole k.good_all;
         signed = subst (λ z. All (λ e. Contains (numbers_of v) e.pass) z) whole signed;
@@ -222,6 +229,7 @@ module _ {O R : Type 0} (good : O → R → Type 0) (after : O → R → O) (wei
       turn_paid now seat v (Has n b) t k = k.1.paid
       turn_paid now seat v (Numbered _) t k = absurd t
       turn_paid now seat v (Joined _ _ _ _) t k = absurd t
+
       nothing_after : (seen log : List (Entry R)) (numbers : List ℕ) (rest : List (Entry R)) → log ≡ seen ++ rest → NoneOf numbers rest → All (λ e. Contains numbers e.pass) log → log ≡ seen
       nothing_after seen log numbers [] is absent signed = is ∙ append-nil seen
       nothing_after seen log numbers (e ∷ es) is absent signed =

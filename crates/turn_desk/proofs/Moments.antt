@@ -92,12 +92,12 @@ module _ {O R : Type 0} where
   signed_stays views id v w at keeps spends seat n s =
       dite (ℕ_discrete seat id)
       (λ same.
-          let is : s.0 ≡ v = mathlib.Core.Option.some-injective s.0 v (sym s.1 ∙ (ap (get_elem? views) same ∙ at)) in
-          let paid = ap (λ (z : View O R). z.spent) is in
-          let before = s.3 in (
-            w,
-            ap (get_elem? (set views id w)) same ∙ set_here views id w (at_below views id v at),
-            keeps n (subst (λ (z : View O R). Contains (numbers_of z) n) is s.2),
-            omega arith,
-          ))
+      let is : s.0 ≡ v = mathlib.Core.Option.some-injective s.0 v (sym s.1 ∙ (ap (get_elem? views) same ∙ at)) in
+      let paid = ap (λ (z : View O R). z.spent) is in
+      let before = s.3 in (
+        w,
+        ap (get_elem? (set views id w)) same ∙ set_here views id w (at_below views id v at),
+        keeps n (subst (λ (z : View O R). Contains (numbers_of z) n) is s.2),
+        omega arith,
+      ))
       (λ other. (s.0, set_else views id seat w other ∙ s.1, s.2, s.3))

@@ -89,12 +89,12 @@ module _ {O R : Type 0} (good : O → R → Type 0) (after : O → R → O) (wei
   place_stays s k next id v w at idle log serving owner =
       let now = k.now in
       ⊎_elim (λ (home : get_elem? s.homes 0 ≡ some (some (Some (book_of after weigh start now.log)))).
-          inl (home ∙ ap (λ l. some (some (Some (book_of after weigh start l)))) (sym log)))
+      inl (home ∙ ap (λ l. some (some (Some (book_of after weigh start l)))) (sym log)))
       (λ (away : (u : View O R) × (get_elem? s.views (now.owner now.serving) ≡ some u) × InTurn u.stage).
-          let low = turn_low now (now.owner now.serving) away.0 away.0.stage away.2 (k.each (now.owner now.serving) away.0 away.1) in
-          let same : next.owner next.serving ≡ now.owner now.serving = ap next.owner serving ∙ owner low in
-          let other : now.owner now.serving ≢ id = λ e. idle (subst (λ (z : View O R). InTurn z.stage) (some-injective away.0 v (sym away.1 ∙ (ap (get_elem? s.views) e ∙ at))) away.2) in
-          inr (away.0, ap (get_elem? (set s.views id w)) same ∙ (set_else s.views id (now.owner now.serving) w other ∙ away.1), away.2))
+      let low = turn_low now (now.owner now.serving) away.0 away.0.stage away.2 (k.each (now.owner now.serving) away.0 away.1) in
+      let same : next.owner next.serving ≡ now.owner now.serving = ap next.owner serving ∙ owner low in
+      let other : now.owner now.serving ≢ id = λ e. idle (subst (λ (z : View O R). InTurn z.stage) (some-injective away.0 v (sym away.1 ∙ (ap (get_elem? s.views) e ∙ at))) away.2) in
+      inr (away.0, ap (get_elem? (set s.views id w)) same ∙ (set_else s.views id (now.owner now.serving) w other ∙ away.1), away.2))
       k.place
 
   pub signed_all : (s : State (Option (Book O R)) (View O R)) (k : Rule s) (id : ℕ) (v w : View O R) → get_elem? s.views id ≡ some v → ((n : ℕ) → Contains (numbers_of v) n → Contains (numbers_of w) n) → v.spent ≤ w.spent
@@ -141,8 +141,8 @@ module _ {O R : Type 0} (good : O → R → Type 0) (after : O → R → O) (wei
             (λ seat other. drawn_by now id seat other);
       } in
       let P : List ℕ → Type 0 = λ ws. (w' : View O R) × (act : Act (Option (Book O R))) × Valid s.homes me.1 act
-          × Rule record { words = set ws 0 ((get_or ws 0 0 + 1) % 18446744073709551616); homes = homes_after s.homes me.1 act; views = set s.views id w' }
-          × drew (step slots 0 1 0 none) me (get_or ws 0 0) (w', carried_after me.1 act) in
+      × Rule record { words = set ws 0 ((get_or ws 0 0 + 1) % 18446744073709551616); homes = homes_after s.homes me.1 act; views = set s.views id w' }
+      × drew (step slots 0 1 0 none) me (get_or ws 0 0) (w', carried_after me.1 act) in
       subst P (sym k.words) (w, keeps, tt, rule, (refl, refl))
 
   taken_from : (now : Moment R) (id : ℕ) (v : View O R) (start' : O) → Lives start now id v → AllGood good start now.log → v.start ≡ Some start' → Taken good after weigh start' v (book_of after weigh start now.log)
@@ -158,8 +158,8 @@ module _ {O R : Type 0} (good : O → R → Type 0) (after : O → R → O) (wei
       let ticket : ticket_in v.stage ≡ t = ap ticket_in waits in
       let b : Book O R = book_of after weigh start now.log in
       let P : List ℕ → Type 0 = λ ws. (w' : View O R) × (act : Act (Option (Book O R))) × Valid s.homes me.1 act
-          × Rule record { words = set ws 1 (get_or ws 1 0); homes = homes_after s.homes me.1 act; views = set s.views id w' }
-          × looked good after weigh (step slots 1 0 0 none) me (get_or ws 1 0) (w', carried_after me.1 act) in
+      × Rule record { words = set ws 1 (get_or ws 1 0); homes = homes_after s.homes me.1 act; views = set s.views id w' }
+      × looked good after weigh (step slots 1 0 0 none) me (get_or ws 1 0) (w', carried_after me.1 act) in
       let words : List ℕ = now.drawn ∷ now.serving ∷ now.numbers ∷ [] in
       let miss : now.serving ≢ t → P words = λ not. (
         v,
@@ -180,30 +180,33 @@ module _ {O R : Type 0} (good : O → R → Type 0) (after : O → R → O) (wei
         λ start' is. ((λ hit. absurd (not (hit ∙ ticket))), λ _. refl),
       ) in
       let hit : now.serving ≡ t → get_elem? s.homes 0 ≡ some (some (Some b)) → P words = λ here home.
-          let w : View O R = record v { stage = Has now.serving b } in (
-            w,
-            takes 0 (Some b),
-            home,
-            record {
-              now = now;
-              words = refl;
-              good_all = k.good_all;
-              named = k.named;
-              signed = signed_all s k id v w at (λ n c. c) (omega arith);
-              asks = (let e = total_set asks_of s.views id v w at in let a = k.asks in omega arith);
-              room = (let e = total_set spent_of s.views id v w at in let r = k.room in omega arith);
-              behind = k.behind;
-              place = inr (w, ap (get_elem? (set s.views id w)) (ap now.owner here ∙ known.1.mine) ∙ set_here s.views id w (at_below s.views id v at), tt);
-              each = all_know after weigh start now now s.views id w k.each
-                  (record { begun = known.0.begun; carried = known.0.carried; front = known.0.front },
-                    subst (Queues now id w) (sym here) record { ahead = known.1.ahead; below = known.1.below; mine = known.1.mine; paid = known.1.paid }, refl, refl)
-                  (λ seat other. nothing_new now seat);
-            },
-            λ start' is. ((λ _. (b, refl, ap (λ (l : List (ℕ × Option (Book O R))). (0, Some b) ∷ l) bare, taken_from now id v start' known.0 k.good_all is)), λ not. absurd (not (here ∙ sym ticket))),
-          ) in
+      let w : View O R = record v { stage = Has now.serving b } in (
+        w,
+        takes 0 (Some b),
+        home,
+        record {
+          now = now;
+          words = refl;
+          good_all = k.good_all;
+          named = k.named;
+          signed = signed_all s k id v w at (λ n c. c) (omega arith);
+          asks = (let e = total_set asks_of s.views id v w at in let a = k.asks in omega arith);
+          room = (let e = total_set spent_of s.views id v w at in let r = k.room in omega arith);
+          behind = k.behind;
+          place = inr (w, ap (get_elem? (set s.views id w)) (ap now.owner here ∙ known.1.mine) ∙ set_here s.views id w (at_below s.views id v at), tt);
+          each = all_know after weigh start now now s.views id w k.each (
+            record { begun = known.0.begun; carried = known.0.carried; front = known.0.front },
+            subst (Queues now id w) (sym here) record { ahead = known.1.ahead; below = known.1.below; mine = known.1.mine; paid = known.1.paid },
+            refl,
+            refl,
+          )
+              (λ seat other. nothing_new now seat);
+        },
+        λ start' is. ((λ _. (b, refl, ap (λ (l : List (ℕ × Option (Book O R))). (0, Some b) ∷ l) bare, taken_from now id v start' known.0 k.good_all is)), λ not. absurd (not (here ∙ sym ticket))),
+      ) in
       let away : now.serving ≡ t → (u : View O R) × (get_elem? s.views (now.owner now.serving) ≡ some u) × InTurn u.stage → P words = λ here u.
-          let is : u.0 ≡ v = some-injective u.0 v (sym u.1 ∙ (ap (get_elem? s.views) (ap now.owner here ∙ known.1.mine) ∙ at)) in
-          absurd (not_waiting t v.stage waits (subst (λ (z : View O R). InTurn z.stage) is u.2)) in
+      let is : u.0 ≡ v = some-injective u.0 v (sym u.1 ∙ (ap (get_elem? s.views) (ap now.owner here ∙ known.1.mine) ∙ at)) in
+      absurd (not_waiting t v.stage waits (subst (λ (z : View O R). InTurn z.stage) is u.2)) in
       subst P (sym k.words) (dite (ℕ_discrete now.serving t) (λ here. ⊎_elim (hit here) (away here) k.place) miss)
 
   abbrev book_in : Book O R → List (ℕ × Option (Book O R)) → Book O R
@@ -249,8 +252,8 @@ module _ {O R : Type 0} (good : O → R → Type 0) (after : O → R → O) (wei
         q.paid,
       ) in
       let P : List ℕ → Type 0 = λ ws. (w' : View O R) × (act : Act (Option (Book O R))) × Valid s.homes ((0, Some c) ∷ []) act
-          × Rule record { words = set ws 1 ((get_or ws 1 0 + 1) % 18446744073709551616); homes = homes_after s.homes ((0, Some c) ∷ []) act; views = set s.views id w' }
-          × passed (step slots 1 1 0 none) (v, (0, Some c) ∷ []) (get_or ws 1 0) (w', carried_after ((0, Some c) ∷ []) act) in
+      × Rule record { words = set ws 1 ((get_or ws 1 0 + 1) % 18446744073709551616); homes = homes_after s.homes ((0, Some c) ∷ []) act; views = set s.views id w' }
+      × passed (step slots 1 1 0 none) (v, (0, Some c) ∷ []) (get_or ws 1 0) (w', carried_after ((0, Some c) ∷ []) act) in
       subst P (sym k.words) (
         w,
         gives,
@@ -298,8 +301,8 @@ module _ {O R : Type 0} (good : O → R → Type 0) (after : O → R → O) (wei
       let small : (n + 1) % 18446744073709551616 ≡ n + 1 = omega arith in
       let signed = signed_all s k id v w at (λ m c. c) (omega arith) in
       let P : List ℕ → Type 0 = λ ws. (w' : View O R) × (act : Act (Option (Book O R))) × Valid s.homes me.1 act
-          × Rule record { words = set ws 2 ((get_or ws 2 0 + 1) % 18446744073709551616); homes = homes_after s.homes me.1 act; views = set s.views id w' }
-          × numbered (step slots 2 1 0 none) me (get_or ws 2 0) (w', carried_after me.1 act) in
+      × Rule record { words = set ws 2 ((get_or ws 2 0 + 1) % 18446744073709551616); homes = homes_after s.homes me.1 act; views = set s.views id w' }
+      × numbered (step slots 2 1 0 none) me (get_or ws 2 0) (w', carried_after me.1 act) in
       subst P (sym k.words) (
         w,
         keeps,
@@ -317,18 +320,19 @@ module _ {O R : Type 0} (good : O → R → Type 0) (after : O → R → O) (wei
           room = omega arith;
           behind = k.behind;
           place = place_stays s k next id v w at (not_idle v.stage idle) refl refl (λ _. refl);
-          each = all_know after weigh start now next s.views id w k.each
-              (record {
-                begun = known.begun;
-                carried = λ m inside. let c = known.carried m inside in let l = c.0 in (omega arith, put_else now.holder n id m (λ e. omega arith) ∙ c.1);
-                front = known.front;
-              },
-              record {
-                below = omega arith;
-                mine = put_here now.holder n id;
-                other = fresh;
-                unused = All-weaker (λ (e : Entry R). e.pass < n) (λ (e : Entry R). e.pass ≢ n) (λ e l is. omega arith) now.log k.named;
-              })
+          each = all_know after weigh start now next s.views id w k.each (
+            record {
+              begun = known.begun;
+              carried = λ m inside. let c = known.carried m inside in let l = c.0 in (omega arith, put_else now.holder n id m (λ e. omega arith) ∙ c.1);
+              front = known.front;
+            },
+            record {
+              below = omega arith;
+              mine = put_here now.holder n id;
+              other = fresh;
+              unused = All-weaker (λ (e : Entry R). e.pass < n) (λ (e : Entry R). e.pass ≢ n) (λ e l is. omega arith) now.log k.named;
+            },
+          )
               (λ seat other. numbered_by now id seat other);
         },
         (refl, refl, omega arith, fresh, all_left (λ (e : Entry R). e.pass ≢ n) v.seen known.front.0 (subst (λ z. All (λ e. e.pass ≢ n) z) known.front.1 (All-weaker (λ (e : Entry R). e.pass < n) (λ (e : Entry R). e.pass ≢ n) (λ e l is. omega arith) now.log k.named))),
@@ -350,8 +354,8 @@ module _ {O R : Type 0} (good : O → R → Type 0) (after : O → R → O) (wei
       let known = subst (KnowsAt after weigh start now id v) both (k.each id v at) in
       let l : Lives start now id v = known.0 in
       let P : List ℕ → Type 0 = λ ws. (w' : View O R) × (act : Act (Option (Book O R))) × Valid s.homes me.1 act
-          × Rule record { words = set ws 0 (get_or ws 0 0); homes = homes_after s.homes me.1 act; views = set s.views id w' }
-          × settled (step slots 0 0 0 none) me (get_or ws 0 0) (w', carried_after me.1 act) in
+      × Rule record { words = set ws 0 (get_or ws 0 0); homes = homes_after s.homes me.1 act; views = set s.views id w' }
+      × settled (step slots 0 0 0 none) me (get_or ws 0 0) (w', carried_after me.1 act) in
       subst P (sym k.words) (
         w,
         keeps,

@@ -13,6 +13,10 @@ reply_at after answer start [] = None
 reply_at after answer start (e ∷ []) = Some (answer start e.request)
 reply_at after answer start (e ∷ f ∷ es) = reply_at after answer (after start e.request) (f ∷ es)
 
+-- this is the reply at the end of the history
+abbrev pub IsReply : {O R A : Type 0} → (O → R → O) → (O → R → A) → O → List (Entry R) → A → Type 0
+IsReply after answer start history reply = reply_at after answer start history ≡ Some reply
+
 -- the requests of the entries of one pass, in order
 abbrev pub requests_of : {R : Type 0} → ℕ → List (Entry R) → List R
 requests_of number history = map (λ e. e.request) (filter (λ e. eqb e.pass number) history)

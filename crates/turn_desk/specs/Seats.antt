@@ -1,11 +1,19 @@
--- How a seat of the table is a pass.
-use Rattle.std.specs.Prelude.{◌≡◌, ℕ, ◌+◌, ◌^◌, ◌≤◌, [], Option}
+-- How a seat of the table is a pass, and the table a desk.
+use Rattle.std.specs.Prelude.{◌≡◌, ℕ, ◌+◌, ◌^◌, ◌≤◌, [], Option, Some}
+use Rattle.std.specs.declared.snapshot.Snapshot.{Snapshot}
 use Rattle.atomic_table.specs.Seated.{TableId}
 use Rattle.atomic_table.specs.declared.shared.Seat.{Seat}
 use Rattle.turn_desk.specs.declared.views.Book.{Book}
 use Rattle.turn_desk.specs.declared.views.Stage.TheVariants.{Idle}
 use Rattle.turn_desk.specs.declared.views.View.{View}
-use Rattle.turn_desk.specs.Passes.{PassView}
+use Rattle.turn_desk.specs.Passes.{DeskView, PassView}
+
+-- the table has the three words and the one slot
+abbrev pub IsLaid : TableId → Type 0
+IsLaid z = (z.words ≡ 3) × (z.slots ≡ 1)
+
+abbrev pub desk_of : {O : Type 0} → TableId → Snapshot O → ℕ → DeskView O
+desk_of z key limit = record { table = z; start = key.value; limit = limit }
 
 module _ {O R : Type 0} where
   abbrev pub pass_of : Seat (Option (Book O R)) (View O R) → PassView O R
@@ -29,6 +37,6 @@ module _ {O R : Type 0} where
     pub few : left + asked ≤ 2 ^ 62
     pub low : number ≤ 2 ^ 62
 
--- the table has the three words and the one slot
-abbrev pub IsLaid : TableId → Type 0
-IsLaid z = (z.words ≡ 3) × (z.slots ≡ 1)
+  -- the seat is of this table, whose desk was started with this object
+  abbrev pub IsSeatOf : TableId → Snapshot O → Seat (Option (Book O R)) (View O R) → Type 0
+  IsSeatOf z key s = (s.table_id ≡ z) × (s.me.0.start ≡ Some key.value)

@@ -52,6 +52,14 @@ module _ {O R : Type 0} where
   abbrev pub book_of : (O → R → O) → (R → ℕ) → O → List (Entry R) → Book O R
   book_of after weigh start log = record { object = state_of after start log; entries = log; weight = weight_of weigh log }
 
+  -- a book with one more entry, answered
+  abbrev pub grown : (O → R → O) → (R → ℕ) → Book O R → Entry R → Book O R
+  grown after weigh b e = record {
+    object = after b.object e.request;
+    entries = b.entries ++ e ∷ [];
+    weight = b.weight + weigh e.request;
+  }
+
   abbrev pub InTurn : Stage O R → Type 0
   InTurn (Has t b) = Unit {0}
   InTurn _ = ⊥
@@ -129,6 +137,16 @@ module _ {O R : Type 0} where
     pub good_all : AllGood good start b.entries
     pub whole : b ≡ book_of after weigh start b.entries
 
+  abbrev pub with_book : ℕ → Book O R → View O R → View O R
+  with_book t b v = record v { stage = Has t b }
+
+  abbrev pub back_from : List (Entry R) → View O R → View O R
+  back_from history v = record v { stage = Idle; seen = history }
+
+  -- after an ask
+  abbrev pub asked_once : List (Entry R) → View O R → View O R
+  asked_once history v = record v { left = v.left - 1; spent = v.spent + 1; seen = history }
+
   abbrev pub ticket_in : Stage O R → ℕ
   ticket_in (Waits t) = t
   ticket_in _ = 0
@@ -136,7 +154,7 @@ module _ {O R : Type 0} where
   -- where the ticket is served, the book was taken, and else nothing has changed
   abbrev pub looked : (O → R → Type 0) → (O → R → O) → (R → ℕ) → At O R → Sat O R → ℕ → Sat O R → Type 0
   looked good after weigh st m n m' = (start : O) → m.0.start ≡ Some start
-      → (n ≡ ticket_in m.0.stage → (b : Book O R) × (m'.0 ≡ record m.0 { stage = Has n b }) × (m'.1 ≡ (0, Some b) ∷ []) × Taken good after weigh start m.0 b)
+      → (n ≡ ticket_in m.0.stage → (b : Book O R) × (m'.0 ≡ with_book n b m.0) × (m'.1 ≡ (0, Some b) ∷ []) × Taken good after weigh start m.0 b)
       × (n ≢ ticket_in m.0.stage → m' ≡ m)
 
   -- the book c goes on from b by entries of the pass n
@@ -148,9 +166,13 @@ module _ {O R : Type 0} where
     pub object : c.object ≡ state_of after b.object more
     pub weight : c.weight ≡ b.weight + weight_of weigh more
 
+  -- the pass in turn may give the book c back
+  abbrev pub GoesHome : (O → R → Type 0) → (O → R → O) → (R → ℕ) → O → View O R → Book O R → Type 0
+  GoesHome good after weigh start v c = (t : ℕ) × (b : Book O R) × (v.stage ≡ Has t b) × Adds good after weigh start v.number b c
+
   -- the book went home, and its history was seen
   abbrev pub passed : At O R → Sat O R → ℕ → Sat O R → Type 0
-  passed st m n m' = (c : Book O R) → m.1 ≡ (0, Some c) ∷ [] → (m'.1 ≡ []) × (m'.0 ≡ record m.0 { stage = Idle; seen = c.entries })
+  passed st m n m' = (c : Book O R) → m.1 ≡ (0, Some c) ∷ [] → (m'.1 ≡ []) × (m'.0 ≡ back_from c.entries m.0)
 
   -- a number was drawn, for one ask
   abbrev pub numbered : At O R → Sat O R → ℕ → Sat O R → Type 0

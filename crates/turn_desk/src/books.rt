@@ -1,5 +1,6 @@
 ghost use Rattle.std.specs.Prelude.{◌≡◌, ◌+◌, ◌<◌, ◌≤◌, [], ◌∷◌, ◌++◌, IfOk, IfErr, OnOk, OnErr};
 ghost use Rattle.turn_desk.specs.Faults.{NotMade};
+ghost use Rattle.turn_desk.specs.Turns.{grown};
 
 use crate::faults::AskFault;
 use crate::objects::{Entry, Object};
@@ -30,8 +31,9 @@ fn step_within<O: Object>(
     ensures state { OnOk result (object.new ≡ O.after object.old entry.request) }
     ensures items { OnOk result (items.new.items ≡ items.old.items ++ entry ∷ []) }
     ensures weight { IfOk result (λ r. (r.1 ≡ weight + O.weigh entry.request) × (r.1 ≤ limit)) }
-    ensures same { OnErr result ((object.new ≡ object.old) × (items.new.items ≡ items.old.items)) }
-    ensures fault { IfErr result (NotMade weight (limit < weight + O.weigh entry.request)) }
+    ensures same_state { OnErr result (object.new ≡ object.old) }
+    ensures same_items { OnErr result (items.new.items ≡ items.old.items) }
+    ensures fault { IfErr result (NotMade limit weight (O.weigh entry.request)) }
 {
     let sum = heavier(weight, object.weight(&entry.request), limit)?;
     items.reserve(1)?;
@@ -48,10 +50,10 @@ pub(crate) fn answer<O: Object>(
 ) -> (Book<O, O::Request>, Result<O::Reply, AskFault>)
     requires { O.good book.object entry.request }
     ensures reply { IfOk result.1 (λ r. r ≡ O.answer book.object entry.request) }
-    ensures book { OnOk result.1 (result.0 ≡ record { object = O.after book.object entry.request; entries = book.entries ++ entry ∷ []; weight = book.weight + O.weigh entry.request }) }
+    ensures book { OnOk result.1 (result.0 ≡ grown O.after O.weigh book entry) }
     ensures within { OnOk result.1 (book.weight + O.weigh entry.request ≤ limit) }
     ensures same { OnErr result.1 (result.0 ≡ book) }
-    ensures fault { IfErr result.1 (NotMade book.weight (limit < book.weight + O.weigh entry.request)) }
+    ensures fault { IfErr result.1 (NotMade limit book.weight (O.weigh entry.request)) }
 {
     let Book {
         mut object,

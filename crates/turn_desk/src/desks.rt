@@ -1,7 +1,9 @@
-ghost use Rattle.std.specs.Prelude.{◌≡◌, ◌≢◌, ◌↔◌, ℕ, ◌+◌, ◌-◌, ◌^◌, ◌<◌, ◌≤◌, [], ◌∷◌, ◌++◌, All, Contains, IfOk, IfErr, OnOk, OnErr, MatchResult, Some, Err};
-ghost use Rattle.turn_desk.specs.Asks.{EndsWith};
-ghost use Rattle.turn_desk.specs.Histories.{state_of, reply_at, requests_of, weight_of, AllGood, GoesOn, longer, Apart};
-ghost use Rattle.turn_desk.specs.Passes.{IsOf, carried};
+ghost use Rattle.std.specs.Prelude.{◌≡◌, ◌≢◌, ◌↔◌, ℕ, ◌+◌, ◌-◌, ◌^◌, ◌<◌, ◌≤◌, [], ◌∷◌, ◌++◌};
+ghost use Rattle.std.specs.Prelude.{All, Contains, IfOk, OnOk, OnErr, Some, Err};
+ghost use Rattle.turn_desk.specs.Asks.{SeesOwn, SeesOthers};
+ghost use Rattle.turn_desk.specs.Histories.{state_of, IsReply, weight_of, AllGood, Apart};
+ghost use Rattle.turn_desk.specs.Passes.{IsOf, IsSamePass, carried, own_requests};
+ghost use Rattle.turn_desk.specs.Passes.{first_pass, split_off, split_to, united};
 
 use crate::faults::AskFault;
 use crate::objects::{Entry, Object};
@@ -30,9 +32,9 @@ impl<O: Object> Model for Desk<O> {
 
     ghost Value = { DeskView O };
 
-    ghost use Rattle.turn_desk.specs.Seats.{IsLaid};
+    ghost use Rattle.turn_desk.specs.Seats.{IsLaid, desk_of};
 
-    ghost view = { λ d. record { table = d.table.shared.table_id; start = d.table.shared.key.value; limit = d.limit } };
+    ghost view = { λ d. desk_of d.table.shared.table_id d.table.shared.key d.limit };
 
     ghost invariant = { λ d. IsLaid d.table.shared.table_id };
 }
@@ -42,7 +44,7 @@ impl<O: Object> Desk<O> {
     pub fn start(alloc: Global, object: O, limit: u64) -> Result<(Desk<O>, Pass<O>), Memory>
         requires { limit ≤ 2 ^ 62 }
         ensures desk { IfOk result (λ r. (r.0.start ≡ object) × (r.0.limit ≡ limit)) }
-        ensures pass { IfOk result (λ r. r.1 ≡ record { table = r.0.table; start = Some r.0.start; number = 0; joined = []; left = 2 ^ 62; asked = 0; seen = [] }) }
+        ensures pass { IfOk result (λ r. r.1 ≡ first_pass r.0) }
     {
         let mut slots = Vec::new(alloc);
         slots.reserve(1)?;
@@ -64,7 +66,8 @@ impl<O: Object> Desk<O> {
         Ok((Desk { table, limit }, pass))
     }
 
-    /// Waits for its turn, and answers one good request in it. Each call but a worn one spends an ask.
+    /// Waits for a turn of its own, and answers one good request in it.
+    /// Each call spends an ask but where none is left. After `Full` and `Memory` the pass may have seen more.
     pub fn ask<R: Wait>(
         &self,
         rt: &R,
@@ -73,16 +76,19 @@ impl<O: Object> Desk<O> {
     ) -> Result<O::Reply, AskFault>
         requires pass { IsOf self.now pass.old }
         requires request { O.good self.now.start request }
-        ensures pass { pass.new ≡ record pass.old { left = pass.new.left; asked = pass.new.asked; seen = pass.new.seen } }
-        ensures spent { (pass.new.left ≡ pass.old.left - 1) × (pass.new.left + pass.new.asked ≡ pass.old.left + pass.old.asked) }
-        ensures entry { OnOk result (EndsWith pass.old.seen (carried pass.old) (record { pass = pass.old.number; request = request }) pass.new.seen) }
-        ensures reply { IfOk result (λ r. reply_at O.after O.answer self.now.start pass.new.seen ≡ Some r) }
+        ensures pass { IsSamePass pass.old pass.new }
+        ensures left { pass.new.left ≡ pass.old.left - 1 }
+        ensures asked { pass.new.left + pass.new.asked ≡ pass.old.left + pass.old.asked }
+        ensures entry { OnOk result (SeesOwn pass.old request pass.new) }
+        ensures reply { IfOk result (IsReply O.after O.answer self.now.start pass.new.seen) }
         ensures within { OnOk result (weight_of O.weigh pass.new.seen ≤ self.now.limit) }
-        ensures others { OnErr result (GoesOn pass.old.seen (carried pass.old) pass.new.seen) }
-        ensures own { MatchResult result (λ _. requests_of pass.old.number pass.new.seen ≡ requests_of pass.old.number pass.old.seen ++ request ∷ []) (λ _. requests_of pass.old.number pass.new.seen ≡ requests_of pass.old.number pass.old.seen) }
+        ensures others { OnErr result (SeesOthers pass.old pass.new) }
+        ensures own { OnOk result (own_requests pass.new ≡ own_requests pass.old ++ request ∷ []) }
+        ensures no_own { OnErr result (own_requests pass.new ≡ own_requests pass.old) }
         ensures worn { (result ≡ Err AskFault.Worn) ↔ (pass.old.left ≡ 0) }
         ensures same { result ≡ Err AskFault.Worn → pass.new ≡ pass.old }
-        ensures full { (bytes : ℕ) → result ≡ Err (AskFault.Full bytes) → (bytes ≡ weight_of O.weigh pass.new.seen) × (self.now.limit < bytes + O.weigh request) }
+        ensures bytes { (n : ℕ) → result ≡ Err (AskFault.Full n) → n ≡ weight_of O.weigh pass.new.seen }
+        ensures full { (n : ℕ) → result ≡ Err (AskFault.Full n) → self.now.limit < n + O.weigh request }
         ensures good { result ≢ Err AskFault.Worn → AllGood O.good self.now.start pass.new.seen }
     {
         if pass.left == 0 {
@@ -98,14 +104,16 @@ impl<O: Object> Desk<O> {
         reply
     }
 
-    /// Makes a pass with a number of its own, which has seen what this one has seen, and hands it so many asks. It spends one ask more.
+    /// Makes a pass with a number of its own, which has seen what this one has seen, and hands it so
+    /// many asks. That spends one more ask. It takes no memory.
     pub fn split(&self, pass: &mut Pass<O>, asks: u64) -> Pass<O>
         requires pass { IsOf self.now pass.old }
         requires asks { asks < pass.old.left }
-        ensures kept { pass.new ≡ record pass.old { left = pass.old.left - (asks + 1); asked = pass.old.asked + 1 } }
-        ensures given { result ≡ record pass.old { number = result.number; joined = []; left = asks; asked = 0 } }
-        ensures number { (result.number ≤ 2 ^ 62) × ¬ Contains (carried pass.old) result.number }
-        ensures none { requests_of result.number result.seen ≡ [] }
+        ensures kept { pass.new ≡ split_off asks pass.old }
+        ensures given { result ≡ split_to result.number asks pass.old }
+        ensures number { result.number ≤ 2 ^ 62 }
+        ensures other { ¬ Contains (carried pass.old) result.number }
+        ensures none { own_requests result ≡ [] }
     {
         let shared = &self.table.shared;
         let number = shared.fetch_add::<Number>(&mut pass.seat, 2, 1);
@@ -120,13 +128,14 @@ impl<O: Object> Desk<O> {
         }
     }
 
-    /// Joins another pass into this one, which carries its numbers and has its asks from now on, and has seen the longer of the two histories.
+    /// Joins another pass into this one, which carries its numbers and has its asks from now on, and
+    /// has seen the longer of the two histories. It takes no memory.
     pub fn join(&self, pass: &mut Pass<O>, other: Pass<O>)
         requires pass { IsOf self.now pass.old }
         requires other { IsOf self.now other }
-        ensures pass { pass.new ≡ record pass.old { joined = pass.old.joined ++ carried other; left = pass.old.left + other.left; asked = pass.old.asked + other.asked; seen = longer pass.old.seen other.seen } }
-        ensures first { GoesOn pass.old.seen (carried pass.old) pass.new.seen }
-        ensures second { GoesOn other.seen (carried other) pass.new.seen }
+        ensures pass { pass.new ≡ united pass.old other }
+        ensures first { SeesOthers pass.old pass.new }
+        ensures second { SeesOthers other pass.new }
         ensures apart { Apart (carried pass.old) (carried other) }
     {
         let Holder {
@@ -142,7 +151,8 @@ impl<O: Object> Desk<O> {
         pass.asked += asked;
     }
 
-    /// Ends the desk by a pass that has all asks, and gives the object and the history. That is so once every other pass was joined.
+    /// Ends the desk by a pass that has all asks, which one has once every other pass was joined into
+    /// it. Gives the object and the history.
     pub fn close(self, pass: Pass<O>) -> (O, List<Entry<O::Request>>)
         requires pass { IsOf self pass }
         requires all { pass.left + pass.asked ≡ 2 ^ 62 }

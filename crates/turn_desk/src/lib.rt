@@ -8,9 +8,9 @@ mod objects;
 mod passes;
 mod plays;
 mod splits;
-mod turns;
 #[cfg(test)]
 mod tests;
+mod turns;
 mod views;
 
 pub use desks::Desk;

@@ -37,8 +37,9 @@ pub trait Object: Drop {
     ghost lasting: { (s : Self) (q r : Self.Request) → good s q → (good (after s q) r ↔ good s r) };
 }
 
-/// One step of a history: the pass that asked, and what it asked. The reply is the one that the object's definition gives at its place.
-#[derive(Drop)]
+/// One step of a history: the pass that asked, and what it asked. The reply is not stored: it is the
+/// one that the object's definition gives at this place.
+#[derive(Debug, Drop)]
 pub struct Entry<R> {
     /// The number of the pass.
     pub pass: u64,

@@ -4,7 +4,8 @@ use crate::objects::Object;
 use crate::plays::Place;
 use std::marker::Model;
 
-/// The right to ask a desk so many times, which one thread at a time has. It has a number, and has seen a history.
+/// The right to ask a desk so many times, which one thread at a time has. It has a number, and has
+/// seen a history.
 #[derive(Drop)]
 pub struct Holder<O, R> {
     pub(crate) seat: Place<O, R>,

@@ -19,8 +19,7 @@ pub struct OneHistory<O> {
     object: PhantomData<O>,
 }
 
-impl<O: Object> TableRule<Slot<O, O::Request>, View<O, O::Request>, Snapshot<O>>
-    for OneHistory<O> {
+impl<O: Object> TableRule<Slot<O, O::Request>, View<O, O::Request>, Snapshot<O>> for OneHistory<O> {
     ghost use Rattle.turn_desk.specs.Turns.{Kept, first_view};
 
     ghost holds = { λ key. Kept O.good O.after O.weigh key.value };
@@ -28,7 +27,13 @@ impl<O: Object> TableRule<Slot<O, O::Request>, View<O, O::Request>, Snapshot<O>>
     ghost first = { λ key. first_view key.value };
 }
 
-pub type Words<O> = Table<Slot<O, <O as Object>::Request>, View<O, <O as Object>::Request>, Snapshot<O>, OneHistory<O>, Global>;
+pub type Words<O> = Table<
+    Slot<O, <O as Object>::Request>,
+    View<O, <O as Object>::Request>,
+    Snapshot<O>,
+    OneHistory<O>,
+    Global,
+>;
 
 pub struct Draw;
 

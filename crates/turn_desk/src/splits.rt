@@ -1,6 +1,7 @@
 //! How a pass is cut in two.
 ghost use Rattle.std.specs.Prelude.{◌≡◌, ℕ, ◌<◌, ◌≤◌, []};
 ghost use Rattle.turn_desk.specs.declared.views.Stage.TheVariants.{Numbered};
+ghost use Rattle.turn_desk.specs.Seats.{IsLaid};
 ghost use Rattle.turn_desk.specs.Turns.{split_kept, split_given};
 
 use crate::objects::Object;
@@ -14,10 +15,13 @@ pub(crate) fn cut<O: Object, G: Amount>(
     asks: u64,
 ) -> Place<O, O::Request>
     requires amount { asks ≡ G.amount }
-    requires table { (seat.old.table_id ≡ shared.now.table_id) × (0 < shared.now.table_id.words) }
-    requires seat { ((n : ℕ) × (seat.old.me.0.stage ≡ Numbered n)) × (asks ≤ seat.old.me.0.left) }
-    ensures kept { (seat.new.table_id ≡ seat.old.table_id) × (seat.new.me ≡ (split_kept asks seat.old.me.0, seat.old.me.1)) }
-    ensures given { (result.table_id ≡ seat.old.table_id) × (result.me ≡ (split_given asks seat.old.me.0, [])) }
+    requires table { IsLaid shared.now.table_id × (seat.old.table_id ≡ shared.now.table_id) }
+    requires number { (n : ℕ) × (seat.old.me.0.stage ≡ Numbered n) }
+    requires enough { asks ≤ seat.old.me.0.left }
+    ensures table { seat.new.table_id ≡ seat.old.table_id }
+    ensures kept { seat.new.me ≡ (split_kept asks seat.old.me.0, seat.old.me.1) }
+    ensures same_table { result.table_id ≡ seat.old.table_id }
+    ensures given { result.me ≡ (split_given asks seat.old.me.0, []) }
 {
     shared.split_seat::<Cut<G>>(seat)
 }

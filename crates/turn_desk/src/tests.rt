@@ -70,7 +70,10 @@ fn count(history: &[crate::Entry<u64>], number: u64) -> usize {
 fn a_full_desk_and_a_worn_pass(rt: HostRuntime) -> Result<(), Fail> {
     let (desk, mut pass) = Desk::start(rt.alloc(), Total { sum: 0 }, 200)?;
     assert_eq!(rt; desk.ask(&rt, &mut pass, 1), Ok(1));
-    assert_eq!(rt; desk.ask(&rt, &mut pass, 1), Err(AskFault::Full { bytes: 192 }));
+    assert_eq!(rt;
+        desk.ask(&rt, &mut pass, 1),
+        Err(AskFault::Full { bytes: 192 })
+    );
     let mut worn = desk.split(&mut pass, 0);
     assert_eq!(rt; (worn.number(), worn.left(), worn.asked()), (1, 0, 0));
     assert_eq!(rt; desk.ask(&rt, &mut worn, 1), Err(AskFault::Worn));
@@ -106,7 +109,10 @@ fn two_threads_ask_a_hundred_times_each(rt: HostRuntime) -> Result<(), Fail> {
     let (total, history) = desk.close(pass);
     assert_eq!(rt; total.sum, 200);
     assert_eq!(rt; history.len(), 200);
-    assert_eq!(rt; (count(history.as_slice(), a), count(history.as_slice(), b)), (100, 100));
+    assert_eq!(rt;
+        (count(history.as_slice(), a), count(history.as_slice(), b)),
+        (100, 100)
+    );
     Ok(())
 }
 

@@ -1,10 +1,11 @@
 //! One turn: to wait for it, to answer in it, and to pass it on.
-ghost use Rattle.std.specs.Prelude.{◌≡◌, ℕ, ◌+◌, ◌-◌, ◌<◌, ◌≤◌, [], ◌∷◌, IfOk, IfErr, OnOk, OnErr, Some, None};
-ghost use Rattle.turn_desk.specs.declared.views.Stage.TheVariants.{Idle, Waits, Has};
+ghost use Rattle.std.specs.Prelude.{◌≡◌, ◌<◌, ◌≤◌, [], ◌∷◌, IfOk, IfErr, OnOk, OnErr, None};
+ghost use Rattle.turn_desk.specs.declared.views.Stage.TheVariants.{Idle, Waits};
 ghost use Rattle.turn_desk.specs.Asks.{EndsWith};
 ghost use Rattle.turn_desk.specs.Faults.{NotMade};
-ghost use Rattle.turn_desk.specs.Histories.{reply_at, weight_of, AllGood, GoesOn};
-ghost use Rattle.turn_desk.specs.Turns.{Adds, Taken, numbers_of};
+ghost use Rattle.turn_desk.specs.Histories.{IsReply, weight_of, AllGood, GoesOn};
+ghost use Rattle.turn_desk.specs.Seats.{IsLaid, IsSeatOf};
+ghost use Rattle.turn_desk.specs.Turns.{GoesHome, Taken, numbers_of, with_book, back_from, asked_once};
 
 use crate::books::answer;
 use crate::faults::AskFault;
@@ -16,7 +17,12 @@ use crossbeam_utils::Backoff;
 use std::snapshot::Snapshot;
 use std::sync::Wait;
 
-pub(crate) type SharedTable<O> = Shared<Slot<O, <O as Object>::Request>, View<O, <O as Object>::Request>, Snapshot<O>, OneHistory<O>>;
+pub(crate) type SharedTable<O> = Shared<
+    Slot<O, <O as Object>::Request>,
+    View<O, <O as Object>::Request>,
+    Snapshot<O>,
+    OneHistory<O>,
+>;
 
 /// Waits until the ticket is served, and takes the book.
 fn take_turn<O: Object, R: Wait>(
@@ -25,10 +31,11 @@ fn take_turn<O: Object, R: Wait>(
     seat: &mut Place<O, O::Request>,
     ticket: u64,
 ) -> Book<O, O::Request>
-    requires table { (seat.old.table_id ≡ shared.now.table_id) × (1 < shared.now.table_id.words) }
-    requires seat { (seat.old.me.0.stage ≡ Waits ticket) × (seat.old.me.1 ≡ []) × (seat.old.me.0.start ≡ Some shared.now.key.value) }
+    requires table { IsLaid shared.now.table_id }
+    requires seat { IsSeatOf shared.now.table_id shared.now.key seat.old }
+    requires ticket { (seat.old.me.0.stage ≡ Waits ticket) × (seat.old.me.1 ≡ []) }
     ensures table { seat.new.table_id ≡ seat.old.table_id }
-    ensures seat { seat.new.me ≡ (record seat.old.me.0 { stage = Has ticket result }, (0, None) ∷ []) }
+    ensures seat { seat.new.me ≡ (with_book ticket result seat.old.me.0, (0, None) ∷ []) }
     ensures book { Taken O.good O.after O.weigh shared.now.key.value seat.old.me.0 result }
 {
     let backoff = Backoff::new();
@@ -47,11 +54,11 @@ fn pass_on<O: Object>(
     seat: &mut Place<O, O::Request>,
     book: Book<O, O::Request>,
 )
-    requires table { (seat.old.table_id ≡ shared.now.table_id) × (1 < shared.now.table_id.words) × (0 < shared.now.table_id.slots) }
+    requires table { IsLaid shared.now.table_id × (seat.old.table_id ≡ shared.now.table_id) }
     requires seat { seat.old.me.1 ≡ (0, None) ∷ [] }
-    requires book { (ticket : ℕ) × (taken : _) × (seat.old.me.0.stage ≡ Has ticket taken) × Adds O.good O.after O.weigh shared.now.key.value seat.old.me.0.number taken book }
+    requires book { GoesHome O.good O.after O.weigh shared.now.key.value seat.old.me.0 book }
     ensures table { seat.new.table_id ≡ seat.old.table_id }
-    ensures seat { seat.new.me ≡ (record seat.old.me.0 { stage = Idle; seen = book.entries }, []) }
+    ensures seat { seat.new.me ≡ (back_from book.entries seat.old.me.0, []) }
 {
     shared.exchange(seat, 0, Some(book));
     shared.fetch_add::<PassOn>(seat, 1, 1);
@@ -65,18 +72,20 @@ pub(crate) fn ask_in_turn<O: Object, R: Wait>(
     seat: &mut Place<O, O::Request>,
     entry: Entry<O::Request>,
 ) -> Result<O::Reply, AskFault>
-    requires table { (seat.old.table_id ≡ shared.now.table_id) × (1 < shared.now.table_id.words) × (0 < shared.now.table_id.slots) }
-    requires seat { (seat.old.me.0.stage ≡ Idle) × (seat.old.me.1 ≡ []) × (seat.old.me.0.start ≡ Some shared.now.key.value) }
+    requires table { IsLaid shared.now.table_id }
+    requires seat { IsSeatOf shared.now.table_id shared.now.key seat.old }
+    requires idle { (seat.old.me.0.stage ≡ Idle) × (seat.old.me.1 ≡ []) }
     requires left { 0 < seat.old.me.0.left }
-    requires entry { (entry.pass ≡ seat.old.me.0.number) × O.good shared.now.key.value entry.request }
+    requires pass { entry.pass ≡ seat.old.me.0.number }
+    requires request { O.good shared.now.key.value entry.request }
     ensures table { seat.new.table_id ≡ seat.old.table_id }
-    ensures seat { seat.new.me ≡ (record seat.old.me.0 { left = seat.old.me.0.left - 1; spent = seat.old.me.0.spent + 1; seen = seat.new.me.0.seen }, []) }
+    ensures seat { seat.new.me ≡ (asked_once seat.new.me.0.seen seat.old.me.0, []) }
     ensures good { AllGood O.good shared.now.key.value seat.new.me.0.seen }
-    ensures entry { OnOk result (EndsWith seat.old.me.0.seen (numbers_of seat.old.me.0) entry seat.new.me.0.seen) }
-    ensures reply { IfOk result (λ r. reply_at O.after O.answer shared.now.key.value seat.new.me.0.seen ≡ Some r) }
+    ensures entry { let v = seat.old.me.0 in OnOk result (EndsWith v.seen (numbers_of v) entry seat.new.me.0.seen) }
+    ensures reply { let s = shared.now.key.value in IfOk result (IsReply O.after O.answer s seat.new.me.0.seen) }
     ensures within { OnOk result (weight_of O.weigh seat.new.me.0.seen ≤ limit) }
-    ensures others { OnErr result (GoesOn seat.old.me.0.seen (numbers_of seat.old.me.0) seat.new.me.0.seen) }
-    ensures fault { IfErr result (NotMade (weight_of O.weigh seat.new.me.0.seen) (limit < weight_of O.weigh seat.new.me.0.seen + O.weigh entry.request)) }
+    ensures others { let v = seat.old.me.0 in OnErr result (GoesOn v.seen (numbers_of v) seat.new.me.0.seen) }
+    ensures fault { IfErr result (NotMade limit (weight_of O.weigh seat.new.me.0.seen) (O.weigh entry.request)) }
 {
     let ticket = shared.fetch_add::<Draw>(seat, 0, 1);
     let taken = take_turn(rt, shared, seat, ticket);

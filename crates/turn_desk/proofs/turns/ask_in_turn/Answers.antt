@@ -1,29 +1,29 @@
 use Rattle.std.proofs.Common.{rules, ◌≡◌, IfOk, OnOk, OnErr, Some, sym, ap, ◌∙◌, subst}
 use Rattle.turn_desk.specs.Asks.{EndsWith}
-use Rattle.turn_desk.specs.Histories.{reply_at, AllGood, GoesOn}
+use Rattle.turn_desk.specs.Histories.{IsReply, AllGood, GoesOn}
 use Rattle.turn_desk.specs.Turns.{numbers_of}
 use Rattle.turn_desk.proofs.Steps.{draws}
 use Rattle.turn_desk.proofs.Answered.{front_of, adds, good_here, all_good, ends_with, goes_on, replies}
 use Rattle.turn_desk.proofs.turns.ask_in_turn.Goals as goal
 
 pub fetch_add-ticket-requires : goal.fetch_add-ticket-requires
-fetch_add-ticket-requires g c = (search rules, search rules, draws g.O.Object.good g.O.Object.after g.O.Object.weigh _ _ _ _ c.requires.seat.0 c.requires.left)
+fetch_add-ticket-requires g c = (search rules, search rules, draws g.O.Object.good g.O.Object.after g.O.Object.weigh _ _ _ _ c.requires.idle.0 c.requires.left)
 
 pub answer-book-requires : goal.answer-book-requires
 answer-book-requires g c =
     good_here g.O.Object.good g.O.Object.after g.O.Object.weigh c.args.shared.now.key.value (λ s q r h. (g.met.O.Object.lasting s q r h).1) _ c.take_turn-taken.result c.args.entry.request
-    c.take_turn-taken.ensures.book c.requires.entry.1
+    c.take_turn-taken.ensures.book c.requires.request
 
 pub pass_on-requires-clause-book : goal.pass_on-requires-clause-book
 pass_on-requires-clause-book g c =
     let turn = c.take_turn-taken.ensures.seat in
     let drew = c.fetch_add-ticket.ensures.2 in
-    let number : c.args.entry.pass ≡ c.take_turn-taken.new.seat.me.0.number = c.requires.entry.0 ∙ sym (ap (λ m. m.0.number) turn ∙ ap (λ v. v.number) drew.1) in
+    let number : c.args.entry.pass ≡ c.take_turn-taken.new.seat.me.0.number = c.requires.pass ∙ sym (ap (λ m. m.0.number) turn ∙ ap (λ v. v.number) drew.1) in
     let a = c.answer-book.ensures in (
       c.fetch_add-ticket.result,
       c.take_turn-taken.result,
       ap (λ m. m.0.stage) turn,
-      adds g.O.Object.good g.O.Object.after g.O.Object.weigh c.args.shared.now.key.value c.take_turn-taken.result c.answer-book.result.0 c.args.entry _ c.answer-book.result.1 number c.requires.entry.1 a.book a.same,
+      adds g.O.Object.good g.O.Object.after g.O.Object.weigh c.args.shared.now.key.value c.take_turn-taken.result c.answer-book.result.0 c.args.entry _ c.answer-book.result.1 number c.requires.request a.book a.same,
     )
 
 pub returns-clause-good : goal.returns-clause-good
@@ -31,7 +31,7 @@ returns-clause-good g c =
     let a = c.answer-book.ensures in
     subst (AllGood g.O.Object.good c.args.shared.now.key.value) (sym (ap (λ m. m.0.seen) c.pass_on.ensures.seat))
     (all_good g.O.Object.good g.O.Object.after g.O.Object.weigh c.args.shared.now.key.value c.take_turn-taken.result c.answer-book.result.0 c.args.entry c.answer-book.result.1
-    c.take_turn-taken.ensures.book.good_all c.requires.entry.1 a.book a.same)
+    c.take_turn-taken.ensures.book.good_all c.requires.request a.book a.same)
 
 pub returns-clause-entry : goal.returns-clause-entry
 returns-clause-entry g c =
@@ -44,7 +44,7 @@ returns-clause-entry g c =
 pub returns-clause-reply : goal.returns-clause-reply
 returns-clause-reply g c =
     let a = c.answer-book.ensures in
-    subst (λ l. IfOk c.answer-book.result.1 (λ r. reply_at g.O.Object.after g.O.Object.answer c.args.shared.now.key.value l ≡ Some r)) (sym (ap (λ m. m.0.seen) c.pass_on.ensures.seat))
+    subst (λ l. IfOk c.answer-book.result.1 (λ r. IsReply g.O.Object.after g.O.Object.answer c.args.shared.now.key.value l r)) (sym (ap (λ m. m.0.seen) c.pass_on.ensures.seat))
     (replies g.O.Object.good g.O.Object.after g.O.Object.weigh c.args.shared.now.key.value g.O.Object.answer _ c.take_turn-taken.result c.answer-book.result.0 c.args.entry c.answer-book.result.1
     c.take_turn-taken.ensures.book a.reply a.book)
 

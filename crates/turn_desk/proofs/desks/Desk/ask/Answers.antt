@@ -1,9 +1,9 @@
-use Rattle.std.proofs.Common.{rules, ◌≡◌, ℕ, OnOk, OnErr, sym, ap, ◌∙◌, subst}
+use Rattle.std.proofs.Common.{rules, ◌≡◌, ℕ, [], ◌∷◌, ◌++◌, OnOk, OnErr, sym, ap, ◌∙◌, subst}
 use Rattle.turn_desk.specs.Asks.{EndsWith}
-use Rattle.turn_desk.specs.Histories.{GoesOn}
+use Rattle.turn_desk.specs.Histories.{GoesOn, requests_of}
 use Rattle.turn_desk.specs.Passes.{carried}
 use Rattle.turn_desk.specs.Turns.{numbers_of}
-use Rattle.turn_desk.proofs.Answered.{own_requests}
+use Rattle.turn_desk.proofs.Answered.{own_more, own_same}
 use Rattle.turn_desk.proofs.desks.Desk.ask.Goals as goal
 
 pub returns-clause-entry : goal.returns-clause-entry
@@ -19,5 +19,16 @@ returns-clause-others g c =
 
 pub returns-clause-own : goal.returns-clause-own
 returns-clause-own g c =
-    own_requests (record { pass = c.args.pass.now.number; request = c.args.request }) c.args.pass.now.joined c.args.pass.now.seen c.ask_in_turn-reply.new.seat.me.0.seen c.ask_in_turn-reply.result
-    (returns-clause-entry g c) (returns-clause-others g c)
+    let pass = c.args.pass.now in
+    let seen = c.ask_in_turn-reply.new.seat.me.0.seen in
+    let number = ap (λ m. m.0.number) c.ask_in_turn-reply.ensures.seat ∙ ap (λ p. p.number) c.pass.view_is in
+    subst (λ (n : ℕ). OnOk c.ask_in_turn-reply.result (requests_of n seen ≡ requests_of pass.number pass.seen ++ c.args.request ∷ [])) (sym number)
+    (own_more (record { pass = pass.number; request = c.args.request }) pass.joined pass.seen seen c.ask_in_turn-reply.result (returns-clause-entry g c))
+
+pub returns-clause-no_own : goal.returns-clause-no_own
+returns-clause-no_own g c =
+    let pass = c.args.pass.now in
+    let seen = c.ask_in_turn-reply.new.seat.me.0.seen in
+    let number = ap (λ m. m.0.number) c.ask_in_turn-reply.ensures.seat ∙ ap (λ p. p.number) c.pass.view_is in
+    subst (λ (n : ℕ). OnErr c.ask_in_turn-reply.result (requests_of n seen ≡ requests_of pass.number pass.seen)) (sym number)
+    (own_same pass.number pass.joined pass.seen seen c.ask_in_turn-reply.result (returns-clause-others g c))

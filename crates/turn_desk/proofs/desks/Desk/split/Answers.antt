@@ -17,5 +17,5 @@ fetch_add-number-requires g c =
 pub returns-clause-none : goal.returns-clause-none
 returns-clause-none g c =
     let drew = c.fetch_add-number.ensures.2 in
-    ap (λ m. requests_of m.0.number m.0.seen) c.cut-seat.ensures.given.1
+    ap (λ m. requests_of m.0.number m.0.seen) c.cut-seat.ensures.given
     ∙ (ap (λ w. requests_of (number_in w.stage) w.seen) drew.1 ∙ requests_none c.fetch_add-number.result c.pass.inside.seat.me.0.seen drew.4)
