@@ -8,7 +8,7 @@ ghost use Rattle.turn_desk.specs.Passes.{first_pass, split_off, split_to, united
 use crate::faults::AskFault;
 use crate::objects::{Entry, Object};
 use crate::passes::{Holder, Pass};
-use crate::plays::{Number, Settle, Unite, Words};
+use crate::plays::{BOOK, NEXT_NUMBER, NEXT_TICKET, Number, Settle, Unite, Words};
 use crate::splits::cut;
 use crate::turns::ask_in_turn;
 use crate::views::Book;
@@ -116,7 +116,7 @@ impl<O: Object> Desk<O> {
         ensures none { own_requests result ≡ [] }
     {
         let shared = &self.table.shared;
-        let number = shared.fetch_add::<Number>(&mut pass.seat, 2, 1);
+        let number = shared.fetch_add::<Number>(&mut pass.seat, NEXT_NUMBER, 1);
         let seat = cut::<O, Brand>(shared, &mut pass.seat, asks);
         pass.left -= asks + 1;
         pass.asked += 1;
@@ -146,7 +146,7 @@ impl<O: Object> Desk<O> {
         } = other;
         let shared = &self.table.shared;
         shared.join_seat::<Unite>(&mut pass.seat, seat);
-        shared.load::<Settle>(&mut pass.seat, 0);
+        shared.load::<Settle>(&mut pass.seat, NEXT_TICKET);
         pass.left += left;
         pass.asked += asked;
     }
@@ -169,7 +169,7 @@ impl<O: Object> Desk<O> {
             asked: _,
         } = pass;
         let mut closed = table.close_with(seat);
-        let slot = closed.take(0);
+        let slot = closed.take(BOOK);
         closed.free();
         let Book {
             object,

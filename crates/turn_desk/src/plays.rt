@@ -1,4 +1,5 @@
-//! The rule of the table, and what each step tells.
+//! The table that the threads share: its three words and its one slot, its rule, and what each kind
+//! of step tells the one that takes it.
 ghost use Rattle.std.specs.Prelude.{ℕ};
 ghost use Rattle.turn_desk.specs.Turns.{drew, looked, passed, numbered, settled, split_kept, split_given, joined, gone};
 
@@ -9,9 +10,22 @@ use std::alloc::Global;
 use std::marker::{Brand, PhantomData};
 use std::snapshot::Snapshot;
 
-/// The place of the book.
+/// The word of the next ticket.
+pub const NEXT_TICKET: usize = 0;
+
+/// The word of the ticket that is served.
+pub const SERVED: usize = 1;
+
+/// The word of the next number of a pass.
+pub const NEXT_NUMBER: usize = 2;
+
+/// The slot of the book.
+pub const BOOK: usize = 0;
+
+/// What the slot holds: the book, or nothing while a thread has it.
 pub type Slot<O, R> = Option<Book<O, R>>;
 
+/// A seat at the table, of which each pass has one.
 pub type Place<O, R> = Seat<Slot<O, R>, View<O, R>>;
 
 /// The rule: one history, and one turn at a time.
@@ -27,6 +41,7 @@ impl<O: Object> TableRule<Slot<O, O::Request>, View<O, O::Request>, Snapshot<O>>
     ghost first = { λ key. first_view key.value };
 }
 
+/// The table of a desk.
 pub type Words<O> = Table<
     Slot<O, <O as Object>::Request>,
     View<O, <O as Object>::Request>,
@@ -35,12 +50,14 @@ pub type Words<O> = Table<
     Global,
 >;
 
+/// A ticket is drawn.
 pub struct Draw;
 
 impl<O, R> Play<Slot<O, R>, View<O, R>> for Draw {
     ghost then = { drew };
 }
 
+/// A look at the ticket that is served. Where it is one's own, the book is taken.
 pub struct Look<O> {
     object: PhantomData<O>,
 }
@@ -49,18 +66,21 @@ impl<O: Object> Play<Slot<O, O::Request>, View<O, O::Request>> for Look<O> {
     ghost then = { looked O.good O.after O.weigh };
 }
 
+/// The book goes home, and the next ticket is served.
 pub struct PassOn;
 
 impl<O, R> Play<Slot<O, R>, View<O, R>> for PassOn {
     ghost then = { passed };
 }
 
+/// A number for a new pass is drawn.
 pub struct Number;
 
 impl<O, R> Play<Slot<O, R>, View<O, R>> for Number {
     ghost then = { numbered };
 }
 
+/// A look after a join, which tells what became of the two passes.
 pub struct Settle;
 
 impl<O, R> Play<Slot<O, R>, View<O, R>> for Settle {
@@ -78,6 +98,7 @@ impl Amount for Brand {
     ghost amount = { 0 };
 }
 
+/// A pass is split.
 pub struct Cut<G> {
     amount: PhantomData<G>,
 }
@@ -88,6 +109,7 @@ impl<O, R, G: Amount> Split<View<O, R>> for Cut<G> {
     ghost right = { split_given G.amount };
 }
 
+/// Two passes are joined.
 pub struct Unite;
 
 impl<O, R> Join<View<O, R>> for Unite {

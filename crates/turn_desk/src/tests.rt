@@ -127,18 +127,19 @@ fn a_tree_of_four_passes(rt: HostRuntime) -> Result<(), Fail> {
     let mut leaf = desk.split(&mut left, 500);
     assert_eq!(rt; desk.ask(&rt, &mut leaf, 1000), Ok(1111));
     assert_eq!(rt; desk.ask(&rt, &mut root, 2), Ok(1113));
+    assert_eq!(rt; desk.ask(&rt, &mut root, 2), Ok(1115));
     desk.join(&mut leaf, right);
-    assert_eq!(rt; desk.ask(&rt, &mut left, 20), Ok(1133));
+    assert_eq!(rt; desk.ask(&rt, &mut left, 20), Ok(1135));
     desk.join(&mut leaf, root);
-    assert_eq!(rt; desk.ask(&rt, &mut leaf, 2000), Ok(3133));
+    assert_eq!(rt; desk.ask(&rt, &mut leaf, 2000), Ok(3135));
     desk.join(&mut leaf, left);
     assert_eq!(rt; (leaf.number(), leaf.left() + leaf.asked()), (3, 1 << 62));
     let (total, history) = desk.close(leaf);
-    assert_eq!(rt; total.sum, 3133);
+    assert_eq!(rt; total.sum, 3135);
     let entries = history.as_slice();
-    assert_eq!(rt; entries.len(), 7);
-    let passes: [u64; 7] = [0, 1, 2, 3, 0, 1, 3];
-    let requests: [u64; 7] = [1, 10, 100, 1000, 2, 20, 2000];
+    assert_eq!(rt; entries.len(), 8);
+    let passes: [u64; 8] = [0, 1, 2, 3, 0, 0, 1, 3];
+    let requests: [u64; 8] = [1, 10, 100, 1000, 2, 2, 20, 2000];
     for (entry, (pass, request)) in entries.iter().zip(passes.iter().zip(requests.iter())) {
         assert_eq!(rt; (entry.pass, entry.request), (*pass, *request));
     }

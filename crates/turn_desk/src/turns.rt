@@ -10,7 +10,7 @@ ghost use Rattle.turn_desk.specs.Turns.{GoesHome, Taken, numbers_of, with_book, 
 use crate::books::answer;
 use crate::faults::AskFault;
 use crate::objects::{Entry, Object};
-use crate::plays::{Draw, Look, OneHistory, PassOn, Place, Slot};
+use crate::plays::{BOOK, Draw, Look, NEXT_TICKET, OneHistory, PassOn, Place, SERVED, Slot};
 use crate::views::{Book, View};
 use atomic_table::Shared;
 use crossbeam_utils::Backoff;
@@ -40,8 +40,8 @@ fn take_turn<O: Object, R: Wait>(
 {
     let backoff = Backoff::new();
     for _ in rt.forever() {
-        if shared.load::<Look<O>>(seat, 1) == ticket {
-            return shared.exchange(seat, 0, None).unwrap();
+        if shared.load::<Look<O>>(seat, SERVED) == ticket {
+            return shared.exchange(seat, BOOK, None).unwrap();
         }
         backoff.snooze();
     }
@@ -60,8 +60,8 @@ fn pass_on<O: Object>(
     ensures table { seat.new.table_id ≡ seat.old.table_id }
     ensures seat { seat.new.me ≡ (back_from book.entries seat.old.me.0, []) }
 {
-    shared.exchange(seat, 0, Some(book));
-    shared.fetch_add::<PassOn>(seat, 1, 1);
+    shared.exchange(seat, BOOK, Some(book));
+    shared.fetch_add::<PassOn>(seat, SERVED, 1);
 }
 
 /// Asks in a turn of its own.
@@ -87,7 +87,7 @@ pub(crate) fn ask_in_turn<O: Object, R: Wait>(
     ensures others { let v = seat.old.me.0 in OnErr result (GoesOn v.seen (numbers_of v) seat.new.me.0.seen) }
     ensures fault { IfErr result (NotMade limit (weight_of O.weigh seat.new.me.0.seen) (O.weigh entry.request)) }
 {
-    let ticket = shared.fetch_add::<Draw>(seat, 0, 1);
+    let ticket = shared.fetch_add::<Draw>(seat, NEXT_TICKET, 1);
     let taken = take_turn(rt, shared, seat, ticket);
     let (book, reply) = answer(taken, limit, entry);
     pass_on(shared, seat, book);
