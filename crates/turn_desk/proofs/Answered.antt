@@ -1,12 +1,11 @@
 -- What an answer in a turn makes of the book, and of the history.
-use Rattle.std.proofs.Common.{◌≡◌, ℕ, ◌+◌, ◌<◌, ◌≤◌, List, [], ◌∷◌, ◌++◌, sym, refl, ap, ◌∙◌, subst, arith, append-nil, append_assoc, Option, Some, Result, Ok, Err, IfOk, IfErr, OnOk, OnErr}
-use Rattle.std.specs.Prelude.{All, Contains}
+use Rattle.std.proofs.Common.{◌≡◌, ℕ, List, [], ◌∷◌, ◌++◌, sym, refl, ap, ◌∙◌, subst, arith, append-nil, Some, Result, Ok, Err, IfOk, OnOk, OnErr}
 use Rattle.std.proofs.lemmas.List.Elements.{All-nil, All-push}
 use Rattle.turn_desk.specs.declared.objects.Entry.{Entry}
 use Rattle.turn_desk.specs.declared.views.Book.{Book}
 use Rattle.turn_desk.specs.declared.faults.AskFault.{AskFault}
 use Rattle.turn_desk.specs.Asks.{EndsWith}
-use Rattle.turn_desk.specs.Histories.{state_of, reply_at, weight_of, AllGood, NoneOf, GoesOn, requests_of}
+use Rattle.turn_desk.specs.Histories.{reply_at, AllGood, GoesOn, requests_of}
 use Rattle.turn_desk.specs.Turns.{Taken, Adds, grown}
 use Rattle.turn_desk.specs.declared.views.View.{View}
 use Rattle.turn_desk.proofs.Lists.{reply_last, good_at, requests_same, requests_one}

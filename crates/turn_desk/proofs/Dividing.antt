@@ -1,24 +1,23 @@
 -- The start, a split and a join keep the rule, and what the end shows.
 use Rattle.std.proofs.Common.{◌≡◌, ◌≢◌, ◌⊎◌, ℕ, ◌+◌, ◌-◌, ◌^◌, ◌<◌, ◌≤◌, List, [], ◌∷◌, ◌++◌, length, get_or, set, sym, refl, ap, ◌∙◌, subst, inl, inr, ⊎_elim, arith, append-nil, Option, Some, None}
 use Rattle.std.specs.Prelude.{All, Contains}
-use Rattle.std.proofs.lemmas.List.Elements.{All-nil, All-append, All-weaker, Contains-append_left, Contains-append_right, Contains-append_cases}
+use Rattle.std.proofs.lemmas.List.Elements.{All-nil, All-weaker, Contains-append_left, Contains-append_right, Contains-append_cases}
 use mathlib.Core.Logic.{dite}
-use mathlib.Core.Option.{none, some, some-injective, some-ne-none}
-use mathlib.Core.Option as maybe
+use mathlib.Core.Option.{some, some-injective, some-ne-none}
 use native.Mathlib.Decide.{ℕ_discrete}
-use lib.ListN.{get_elem?, length-set}
-use Rattle.atomic_table.specs.Table.{State, opening, Splits, Joins, Final, Seen}
-use Rattle.atomic_table.proofs.Lists.{at_set, set_here, set_else, at_longer, at_snoc}
+use lib.ListN.{get_elem?}
+use Rattle.atomic_table.specs.Table.{opening, Splits, Joins, Final, Seen}
+use Rattle.atomic_table.proofs.Lists.{at_set, set_here, set_else, at_longer}
 use Rattle.turn_desk.specs.declared.objects.Entry.{Entry}
 use Rattle.turn_desk.specs.declared.views.Book.{Book}
 use Rattle.turn_desk.specs.declared.views.Stage.{Stage}
 use Rattle.turn_desk.specs.declared.views.Stage.TheVariants.{Gone, Idle, Waits, Has, Numbered, Joined}
 use Rattle.turn_desk.specs.declared.views.View.{View}
-use Rattle.turn_desk.specs.Histories.{state_of, weight_of, AllGood, NoneOf, GoesOn, longer, Apart}
-use Rattle.turn_desk.specs.Turns.{Moment, Lives, Queues, Fresh, Both, total, asks_of, numbers_of, spent_of, book_of, InTurn, KnowsAt, Knows, Signed, Kept, first_view, number_in, split_kept, split_given, joined, gone}
-use Rattle.turn_desk.proofs.Lists.{put, put_here, put_else, moved, moved_there, moved_else, total_set, total_snoc, total_one, total_two, at_end, at_below, all_right, goes_on_same, middle, united}
+use Rattle.turn_desk.specs.Histories.{AllGood, NoneOf}
+use Rattle.turn_desk.specs.Turns.{Moment, Lives, Fresh, Both, asks_of, numbers_of, spent_of, book_of, InTurn, KnowsAt, Knows, Signed, first_view, number_in, split_kept, split_given, joined, gone}
+use Rattle.turn_desk.proofs.Lists.{put, put_here, put_else, moved, moved_there, moved_else, total_set, total_snoc, total_two, at_end, at_below, all_right, goes_on_same, middle, united}
 use Rattle.turn_desk.proofs.Moments.{Still, others_know, all_know, signed_stays}
-use Rattle.turn_desk.proofs.Steps.{Rule, Place, place_stays, signed_all, not_idle}
+use Rattle.turn_desk.proofs.Steps.{Rule, place_stays, signed_all, not_idle}
 
 contains_one : (n m : ℕ) → Contains (n ∷ []) m → n ≡ m
 contains_one n m c = ⊎_elim (λ (i : c.0 ≡ 0). sym (ap (λ k. get_or (n ∷ []) k m) i) ∙ c.2) (λ (i : 0 < c.0). (let l = c.1 in absurd (omega arith))) (zero_or c.0)

@@ -1,5 +1,5 @@
 -- Lists of views, and histories.
-use Rattle.std.proofs.Common.{Bool, true, false, cond, leb, ◌≡◌, ◌≢◌, ◌⊎◌, ℕ, zero, suc, ◌+◌, ◌<◌, ◌≤◌, List, [], ◌∷◌, ◌++◌, length, set, sym, refl, ap, ◌∙◌, subst, inl, inr, arith, append_assoc, append-nil, ⊎_elim, ne_eqb, eq-eqb, Some, None}
+use Rattle.std.proofs.Common.{Bool, true, false, cond, leb, ◌≡◌, ◌≢◌, ◌⊎◌, ℕ, zero, suc, ◌+◌, ◌<◌, ◌≤◌, List, [], ◌∷◌, ◌++◌, length, set, sym, refl, ap, ◌∙◌, subst, inl, inr, arith, append_assoc, append-nil, ⊎_elim, ne_eqb, eq-eqb, Some}
 use Rattle.std.specs.Prelude.{All, Contains, eqb, map, filter}
 use Rattle.std.proofs.lemmas.List.Elements.{All-nil, All-cons, All-head, All-tail, All-append, All-weaker, Contains-append_cases, filter-append}
 use Rattle.std.proofs.lemmas.List.Sums.{sum_by-append}

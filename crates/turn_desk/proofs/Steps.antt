@@ -1,5 +1,5 @@
 -- Drawing a ticket, looking, passing on and drawing a number keep the rule.
-use Rattle.std.proofs.Common.{◌≡◌, ◌≢◌, ◌⊎◌, ℕ, ◌+◌, ◌-◌, ◌%◌, ◌^◌, ◌<◌, ◌≤◌, List, [], ◌∷◌, ◌++◌, length, get_or, set, sym, refl, ap, ◌∙◌, subst, inl, inr, ⊎_elim, arith, append-nil, Option, Some, None}
+use Rattle.std.proofs.Common.{◌≡◌, ◌≢◌, ◌⊎◌, ℕ, ◌+◌, ◌-◌, ◌%◌, ◌^◌, ◌<◌, ◌≤◌, List, [], ◌∷◌, ◌++◌, get_or, set, sym, refl, ap, ◌∙◌, subst, inl, inr, ⊎_elim, arith, append-nil, Option, Some}
 use Rattle.std.specs.Prelude.{All, Contains}
 use Rattle.std.proofs.lemmas.List.Elements.{All-nil, All-append, All-weaker}
 use mathlib.Core.Logic.{dite}
@@ -15,7 +15,7 @@ use Rattle.turn_desk.specs.declared.views.Stage.{Stage}
 use Rattle.turn_desk.specs.declared.views.Stage.TheVariants.{Gone, Idle, Waits, Has, Numbered, Joined}
 use Rattle.turn_desk.specs.declared.views.View.{View}
 use Rattle.turn_desk.specs.Histories.{state_of, weight_of, AllGood, GoesOn}
-use Rattle.turn_desk.specs.Turns.{Moment, Lives, Queues, Fresh, Sat, total, asks_of, numbers_of, spent_of, book_of, InTurn, KnowsAt, Knows, Signed, Kept, drew, ticket_in, Taken, looked, Adds, passed, numbered, SettledAt, Settled, settled}
+use Rattle.turn_desk.specs.Turns.{Moment, Lives, Queues, Sat, total, asks_of, numbers_of, spent_of, book_of, InTurn, KnowsAt, Signed, Kept, drew, ticket_in, Taken, looked, Adds, passed, numbered, SettledAt, settled}
 use Rattle.turn_desk.proofs.Lists.{put, put_here, put_else, total_set, total_one, total_less, at_below, all_left, goes_on_same, weight_more, state_more, united}
 use Rattle.turn_desk.proofs.Moments.{Still, all_know, signed_stays}
 

@@ -1,6 +1,6 @@
 -- The rule of the table: what holds between any two steps, and what each step tells the one that takes it.
 -- Word 0 is the next ticket, word 1 the ticket that is served, and word 2 the next number of a pass. Slot 0 is the place of the book.
-use Rattle.std.specs.Prelude.{◌≡◌, ◌≢◌, ◌⊎◌, ℕ, ◌+◌, ◌-◌, ◌^◌, ◌<◌, ◌≤◌, List, [], ◌∷◌, ◌++◌, length, All, Contains, Option, Some, None}
+use Rattle.std.specs.Prelude.{◌≡◌, ◌≢◌, ◌⊎◌, ℕ, ◌+◌, ◌-◌, ◌^◌, ◌<◌, ◌≤◌, List, [], ◌∷◌, ◌++◌, All, Contains, Option, Some, None}
 use mathlib.Core.Option.{some}
 use lib.ListN.{get_elem?}
 use Rattle.atomic_table.specs.Table.{State, Me, Step}
@@ -9,7 +9,7 @@ use Rattle.turn_desk.specs.declared.views.Book.{Book}
 use Rattle.turn_desk.specs.declared.views.Stage.{Stage}
 use Rattle.turn_desk.specs.declared.views.Stage.TheVariants.{Gone, Idle, Waits, Has, Numbered, Joined}
 use Rattle.turn_desk.specs.declared.views.View.{View}
-use Rattle.turn_desk.specs.Histories.{state_of, weight_of, AllGood, NoneOf, GoesOn, longer, Apart}
+use Rattle.turn_desk.specs.Histories.{state_of, weight_of, AllGood, GoesOn, longer, Apart}
 
 -- what all views have of something, added up
 abbrev pub total : {V : Type 0} → (V → ℕ) → List V → ℕ

@@ -1,4 +1,4 @@
-use Rattle.std.proofs.Common.{rules, ◌≡◌, ◌≤◌, subst}
+use Rattle.std.proofs.Common.{rules, ◌≤◌, subst}
 use Rattle.turn_desk.proofs.Dividing.{splits}
 use Rattle.turn_desk.proofs.splits.cut.Goals as goal
 

@@ -1,4 +1,4 @@
-use Rattle.std.proofs.Common.{rules, ◌≡◌, IfOk, OnOk, OnErr, Some, sym, ap, ◌∙◌, subst}
+use Rattle.std.proofs.Common.{rules, ◌≡◌, IfOk, OnOk, OnErr, sym, ap, ◌∙◌, subst}
 use Rattle.turn_desk.specs.Asks.{EndsWith}
 use Rattle.turn_desk.specs.Histories.{IsReply, AllGood, GoesOn}
 use Rattle.turn_desk.specs.Turns.{numbers_of}

@@ -1,6 +1,5 @@
-use Rattle.std.proofs.Common.{rules, ◌≡◌, ◌∷◌, [], Some, None, sym, ap, ◌∙◌, subst}
+use Rattle.std.proofs.Common.{rules, ◌∷◌, Some, sym, ap, ◌∙◌, subst}
 use Rattle.atomic_table.specs.Table.{rest}
-use Rattle.turn_desk.specs.declared.views.Stage.TheVariants.{Idle}
 use Rattle.turn_desk.specs.Turns.{Adds}
 use Rattle.turn_desk.proofs.Steps.{passes}
 use Rattle.turn_desk.proofs.turns.pass_on.Goals as goal

@@ -1,4 +1,4 @@
-use Rattle.std.proofs.Common.{rules, ◌≡◌, ℕ, [], ◌∷◌, ◌++◌, OnOk, OnErr, sym, ap, ◌∙◌, subst}
+use Rattle.std.proofs.Common.{◌≡◌, ℕ, [], ◌∷◌, ◌++◌, OnOk, OnErr, sym, ap, ◌∙◌, subst}
 use Rattle.turn_desk.specs.Asks.{EndsWith}
 use Rattle.turn_desk.specs.Histories.{GoesOn, requests_of}
 use Rattle.turn_desk.specs.Passes.{carried}

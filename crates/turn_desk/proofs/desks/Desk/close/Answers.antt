@@ -1,11 +1,10 @@
-use Rattle.std.proofs.Common.{rules, ◌≡◌, ◌+◌, ◌^◌, List, Option, Some, sym, ap, ◌∙◌, subst, refl}
+use Rattle.std.proofs.Common.{rules, ◌≡◌, ◌+◌, sym, ap, ◌∙◌, subst, refl}
 use Rattle.std.specs.Prelude.{IsSome, All, Contains}
 use mathlib.Core.Option.{some-injective}
-use Rattle.turn_desk.specs.declared.views.Book.{Book}
 use Rattle.turn_desk.specs.Histories.{state_of, AllGood}
 use Rattle.turn_desk.specs.Passes.{carried}
 use Rattle.turn_desk.specs.Turns.{book_of}
-use Rattle.turn_desk.proofs.Dividing.{Ended, ends}
+use Rattle.turn_desk.proofs.Dividing.{ends}
 use Rattle.turn_desk.proofs.desks.Desk.close.Goals as goal
 
 pub unwrap-object-requires : goal.unwrap-object-requires

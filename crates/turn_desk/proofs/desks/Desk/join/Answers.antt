@@ -1,5 +1,4 @@
-use Rattle.std.proofs.Common.{rules, ◌≡◌, sym, ap, ◌∙◌, subst}
-use Rattle.std.specs.Prelude.{Contains}
+use Rattle.std.proofs.Common.{rules, sym, ap, ◌∙◌, subst}
 use Rattle.turn_desk.specs.Histories.{GoesOn, Apart}
 use Rattle.turn_desk.specs.Passes.{carried}
 use Rattle.turn_desk.specs.Turns.{numbers_of, Settled, SettledAt}

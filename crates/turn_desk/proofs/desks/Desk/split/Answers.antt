@@ -1,4 +1,4 @@
-use Rattle.std.proofs.Common.{rules, arith, ◌≡◌, ◌<◌, ap, ◌∙◌, subst}
+use Rattle.std.proofs.Common.{rules, arith, ap, ◌∙◌}
 use Rattle.turn_desk.specs.Histories.{requests_of}
 use Rattle.turn_desk.specs.Turns.{number_in}
 use Rattle.turn_desk.proofs.Lists.{requests_none}

@@ -1,4 +1,4 @@
-use Rattle.std.proofs.Common.{rules, ◌≡◌, ◌∷◌, [], Some, sym, ap, ◌∙◌, subst}
+use Rattle.std.proofs.Common.{rules, ◌≡◌, ◌∷◌, [], Some, sym, subst}
 use Rattle.atomic_table.specs.Table.{opening}
 use Rattle.turn_desk.specs.Turns.{book_of, Kept, first_view}
 use Rattle.turn_desk.proofs.Dividing.{starts}
