@@ -3,7 +3,7 @@ use Rattle.std.proofs.Common.{◌≡◌, ◌≢◌, ℕ, ◌<◌, ◌≤◌, Lis
 use Rattle.std.specs.Prelude.{All, Contains}
 use Rattle.std.proofs.lemmas.List.Elements.{All-append, All-weaker}
 use mathlib.Core.Logic.{dite}
-use mathlib.Core.Option.{some}
+use mathlib.Core.Option.{some, some-injective}
 use native.Mathlib.Decide.{ℕ_discrete}
 use lib.ListN.{get_elem?}
 use Rattle.atomic_table.proofs.Lists.{at_set, set_here, set_else}
@@ -91,7 +91,7 @@ module _ {O R : Type 0} where
   signed_stays views id v w at keeps spends seat n s =
       dite (ℕ_discrete seat id)
       (λ same.
-      let is : s.0 ≡ v = mathlib.Core.Option.some-injective s.0 v (sym s.1 ∙ (ap (get_elem? views) same ∙ at)) in
+      let is : s.0 ≡ v = some-injective s.0 v (sym s.1 ∙ (ap (get_elem? views) same ∙ at)) in
       let paid = ap (λ (z : View O R). z.spent) is in
       let before = s.3 in (
         w,

@@ -29,6 +29,10 @@ IsOf desk pass = (pass.table ≡ desk.table) × (pass.start ≡ Some desk.start)
 abbrev pub carried : {O R : Type 0} → PassView O R → List ℕ
 carried pass = pass.number ∷ pass.joined
 
+-- the asks of a pass, left and spent
+abbrev pub all_asks : {O R : Type 0} → PassView O R → ℕ
+all_asks pass = pass.left + pass.asked
+
 -- what the pass has asked under its own number, in order
 abbrev pub own_requests : {O R : Type 0} → PassView O R → List R
 own_requests pass = requests_of pass.number pass.seen

@@ -1,8 +1,9 @@
 -- How a seat of the table is a pass, and the table a desk.
-use Rattle.std.specs.Prelude.{◌≡◌, ℕ, ◌+◌, ◌^◌, ◌≤◌, [], Option, Some}
+use Rattle.std.specs.Prelude.{◌≡◌, ℕ, ◌+◌, ◌^◌, ◌≤◌, List, [], Option, Some}
 use Rattle.std.specs.declared.snapshot.Snapshot.{Snapshot}
 use Rattle.atomic_table.specs.Seated.{TableId}
 use Rattle.atomic_table.specs.declared.shared.Seat.{Seat}
+use Rattle.turn_desk.specs.declared.objects.Entry.{Entry}
 use Rattle.turn_desk.specs.declared.views.Book.{Book}
 use Rattle.turn_desk.specs.declared.views.Stage.TheVariants.{Idle}
 use Rattle.turn_desk.specs.declared.views.View.{View}
@@ -40,3 +41,7 @@ module _ {O R : Type 0} where
   -- the seat is of this table, whose desk was started with this object
   abbrev pub IsSeatOf : TableId → Snapshot O → Seat (Option (Book O R)) (View O R) → Type 0
   IsSeatOf z key s = (s.table_id ≡ z) × (s.me.0.start ≡ Some key.value)
+
+  -- the history that the pass of the seat has seen
+  abbrev pub seen_by : Seat (Option (Book O R)) (View O R) → List (Entry R)
+  seen_by s = s.me.0.seen

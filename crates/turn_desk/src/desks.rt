@@ -2,7 +2,7 @@ ghost use Rattle.std.specs.Prelude.{◌≡◌, ◌≢◌, ◌↔◌, ℕ, ◌+�
 ghost use Rattle.std.specs.Prelude.{All, Contains, IfOk, OnOk, OnErr, Some, Err};
 ghost use Rattle.turn_desk.specs.Asks.{SeesOwn, SeesOthers};
 ghost use Rattle.turn_desk.specs.Histories.{state_of, IsReply, weight_of, AllGood, Apart};
-ghost use Rattle.turn_desk.specs.Passes.{IsOf, IsSamePass, carried, own_requests};
+ghost use Rattle.turn_desk.specs.Passes.{IsOf, IsSamePass, all_asks, carried, own_requests};
 ghost use Rattle.turn_desk.specs.Passes.{first_pass, split_off, split_to, united};
 
 use crate::faults::AskFault;
@@ -78,7 +78,7 @@ impl<O: Object> Desk<O> {
         requires request { O.good self.now.start request }
         ensures pass { IsSamePass pass.old pass.new }
         ensures left { pass.new.left ≡ pass.old.left - 1 }
-        ensures asked { pass.new.left + pass.new.asked ≡ pass.old.left + pass.old.asked }
+        ensures asked { all_asks pass.new ≡ all_asks pass.old }
         ensures entry { OnOk result (SeesOwn pass.old request pass.new) }
         ensures reply { IfOk result (IsReply O.after O.answer self.now.start pass.new.seen) }
         ensures within { OnOk result (weight_of O.weigh pass.new.seen ≤ self.now.limit) }
@@ -155,7 +155,7 @@ impl<O: Object> Desk<O> {
     /// it. Gives the object and the history.
     pub fn close(self, pass: Pass<O>) -> (O, List<Entry<O::Request>>)
         requires pass { IsOf self pass }
-        requires all { pass.left + pass.asked ≡ 2 ^ 62 }
+        requires all { all_asks pass ≡ 2 ^ 62 }
         ensures history { result.1 ≡ pass.seen }
         ensures state { result.0 ≡ state_of O.after self.start pass.seen }
         ensures numbers { All (λ e. Contains (carried pass) e.pass) pass.seen }

@@ -1,9 +1,8 @@
-ghost use Rattle.std.specs.Prelude.{◌≡◌, ◌+◌, ◌<◌, [], ◌∷◌, IfOk, IfErr, IsOk};
-ghost use Rattle.turn_desk.specs.Passes.{IsOf};
+ghost use Rattle.std.specs.Prelude.{◌≡◌, ◌+◌};
+ghost use Rattle.turn_desk.specs.Passes.{IsOf, all_asks};
 
 use crate::{AskFault, Desk, Object, Pass};
-use link_port::{List, Memory};
-use std::alloc::Global;
+use link_port::Memory;
 use std::sync::Wait;
 use std::test::Fail;
 use std::thread::join;
@@ -50,7 +49,7 @@ fn ask_ones<R: Wait>(
 ) -> (Pass<Total>, u64)
     requires { IsOf desk.now pass }
     ensures desk { IsOf desk.now result.0 }
-    ensures asks { result.0.left + result.0.asked ≡ pass.left + pass.asked }
+    ensures asks { all_asks result.0 ≡ all_asks pass }
 {
     let mut replies = 0;
     for _ in 0..times {
@@ -95,11 +94,11 @@ fn two_threads_ask_a_hundred_times_each(rt: HostRuntime) -> Result<(), Fail> {
         &rt,
         || -> (Pass<Total>, u64)
             requires { IsOf shared.now one }
-            ensures { IsOf shared.entry.now result.0 × (result.0.left + result.0.asked ≡ one.left + one.asked) }
+            ensures { IsOf shared.entry.now result.0 × (all_asks result.0 ≡ all_asks one) }
         { ask_ones(host, shared, one, 100) },
         || -> (Pass<Total>, u64)
             requires { IsOf shared.now two }
-            ensures { IsOf shared.entry.now result.0 × (result.0.left + result.0.asked ≡ two.left + two.asked) }
+            ensures { IsOf shared.entry.now result.0 × (all_asks result.0 ≡ all_asks two) }
         { ask_ones(host, shared, two, 100) },
     );
     assert_eq!(rt; (first, second), (100, 100));

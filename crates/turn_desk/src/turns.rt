@@ -4,7 +4,7 @@ ghost use Rattle.turn_desk.specs.declared.views.Stage.TheVariants.{Idle, Waits};
 ghost use Rattle.turn_desk.specs.Asks.{EndsWith};
 ghost use Rattle.turn_desk.specs.Faults.{NotMade};
 ghost use Rattle.turn_desk.specs.Histories.{IsReply, weight_of, AllGood, GoesOn};
-ghost use Rattle.turn_desk.specs.Seats.{IsLaid, IsSeatOf};
+ghost use Rattle.turn_desk.specs.Seats.{IsLaid, IsSeatOf, seen_by};
 ghost use Rattle.turn_desk.specs.Turns.{GoesHome, Taken, numbers_of, with_book, back_from, asked_once};
 
 use crate::books::answer;
@@ -79,13 +79,13 @@ pub(crate) fn ask_in_turn<O: Object, R: Wait>(
     requires pass { entry.pass ≡ seat.old.me.0.number }
     requires request { O.good shared.now.key.value entry.request }
     ensures table { seat.new.table_id ≡ seat.old.table_id }
-    ensures seat { seat.new.me ≡ (asked_once seat.new.me.0.seen seat.old.me.0, []) }
-    ensures good { AllGood O.good shared.now.key.value seat.new.me.0.seen }
-    ensures entry { let v = seat.old.me.0 in OnOk result (EndsWith v.seen (numbers_of v) entry seat.new.me.0.seen) }
-    ensures reply { let s = shared.now.key.value in IfOk result (IsReply O.after O.answer s seat.new.me.0.seen) }
-    ensures within { OnOk result (weight_of O.weigh seat.new.me.0.seen ≤ limit) }
-    ensures others { let v = seat.old.me.0 in OnErr result (GoesOn v.seen (numbers_of v) seat.new.me.0.seen) }
-    ensures fault { IfErr result (NotMade limit (weight_of O.weigh seat.new.me.0.seen) (O.weigh entry.request)) }
+    ensures seat { seat.new.me ≡ (asked_once (seen_by seat.new) seat.old.me.0, []) }
+    ensures good { AllGood O.good shared.now.key.value (seen_by seat.new) }
+    ensures entry { let v = seat.old.me.0 in OnOk result (EndsWith v.seen (numbers_of v) entry (seen_by seat.new)) }
+    ensures reply { let s = shared.now.key.value in IfOk result (IsReply O.after O.answer s (seen_by seat.new)) }
+    ensures within { OnOk result (weight_of O.weigh (seen_by seat.new) ≤ limit) }
+    ensures others { let v = seat.old.me.0 in OnErr result (GoesOn v.seen (numbers_of v) (seen_by seat.new)) }
+    ensures fault { IfErr result (NotMade limit (weight_of O.weigh (seen_by seat.new)) (O.weigh entry.request)) }
 {
     let ticket = shared.fetch_add::<Draw>(seat, NEXT_TICKET, 1);
     let taken = take_turn(rt, shared, seat, ticket);
