@@ -19,7 +19,8 @@ use std::marker::{Brand, Model};
 use std::snapshot::Snapshot;
 use std::sync::Wait;
 
-/// One object that many threads ask in turn. It keeps one history of all that was asked.
+/// One object that many threads ask in turn, with a limit on what its history may weigh. It is shared
+/// by `&`, and each thread has a pass of its own.
 #[derive(Drop)]
 pub struct Desk<O: Object> {
     table: Words<O>,
