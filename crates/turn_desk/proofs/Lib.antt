@@ -1,0 +1,5 @@
+pub mod Answered
+pub mod Dividing
+pub mod Lists
+pub mod Moments
+pub mod Steps

@@ -1,0 +1,146 @@
+ghost use Rattle.std.specs.Prelude.{◌≡◌, ◌+◌};
+ghost use Rattle.turn_desk.specs.Passes.{IsOf, all_asks};
+
+use crate::{AskFault, Desk, Object, Pass};
+use link_port::Memory;
+use std::sync::Wait;
+use std::test::Fail;
+use std::thread::join;
+
+/// A running total. A request is a number to be added, and is answered with the total.
+#[derive(Drop)]
+struct Total {
+    sum: u64,
+}
+
+impl Object for Total {
+    type Request = u64;
+
+    type Reply = u64;
+
+    ghost use Rattle.std.specs.Prelude.{ℕ, ◌+◌, ◌%◌, ◌^◌};
+
+    ghost good = { λ s n. Unit {0} };
+
+    ghost after = { λ s n. record { sum = (s.sum + n) % 2 ^ 64 } };
+
+    ghost answer = { λ s n. (s.sum + n) % 2 ^ 64 };
+
+    ghost weigh = { λ n. 192 };
+
+    ghost lasting = { λ s q r h. ((λ x. x), λ x. x) };
+
+    fn step(&mut self, request: &u64) -> Result<u64, Memory> {
+        self.sum = self.sum.wrapping_add(*request);
+        Ok(self.sum)
+    }
+
+    fn weight(&self, _request: &u64) -> u64 {
+        192
+    }
+}
+
+/// Asks the number 1 so many times, and counts the replies.
+fn ask_ones<R: Wait>(
+    rt: &R,
+    desk: &Desk<Total>,
+    mut pass: Pass<Total>,
+    times: u64,
+) -> (Pass<Total>, u64)
+    requires { IsOf desk.now pass }
+    ensures desk { IsOf desk.now result.0 }
+    ensures asks { all_asks result.0 ≡ all_asks pass }
+{
+    let mut replies = 0;
+    for _ in 0..times {
+        if desk.ask(rt, &mut pass, 1).is_ok() {
+            replies += 1;
+        }
+    }
+    (pass, replies)
+}
+
+/// How many entries are of this pass.
+fn count(history: &[crate::Entry<u64>], number: u64) -> usize {
+    history.iter().filter(|e| e.pass == number).count()
+}
+
+#[test]
+fn a_full_desk_and_a_worn_pass(rt: HostRuntime) -> Result<(), Fail> {
+    let (desk, mut pass) = Desk::start(rt.alloc(), Total { sum: 0 }, 200)?;
+    assert_eq!(rt; desk.ask(&rt, &mut pass, 1), Ok(1));
+    assert_eq!(rt;
+        desk.ask(&rt, &mut pass, 1),
+        Err(AskFault::Full { bytes: 192 })
+    );
+    let mut worn = desk.split(&mut pass, 0);
+    assert_eq!(rt; (worn.number(), worn.left(), worn.asked()), (1, 0, 0));
+    assert_eq!(rt; desk.ask(&rt, &mut worn, 1), Err(AskFault::Worn));
+    desk.join(&mut pass, worn);
+    assert_eq!(rt; (pass.number(), pass.asked()), (0, 3));
+    let (total, history) = desk.close(pass);
+    assert_eq!(rt; (total.sum, history.len()), (1, 1));
+    Ok(())
+}
+
+#[test]
+fn two_threads_ask_a_hundred_times_each(rt: HostRuntime) -> Result<(), Fail> {
+    let (desk, mut pass) = Desk::start(rt.alloc(), Total { sum: 0 }, 1 << 62)?;
+    let one = desk.split(&mut pass, 100);
+    let two = desk.split(&mut pass, 100);
+    let shared = &desk;
+    let host = &rt;
+    let ((one, first), (two, second)) = join(
+        &rt,
+        || -> (Pass<Total>, u64)
+            requires { IsOf shared.now one }
+            ensures { IsOf shared.entry.now result.0 × (all_asks result.0 ≡ all_asks one) }
+        { ask_ones(host, shared, one, 100) },
+        || -> (Pass<Total>, u64)
+            requires { IsOf shared.now two }
+            ensures { IsOf shared.entry.now result.0 × (all_asks result.0 ≡ all_asks two) }
+        { ask_ones(host, shared, two, 100) },
+    );
+    assert_eq!(rt; (first, second), (100, 100));
+    let (a, b) = (one.number(), two.number());
+    desk.join(&mut pass, one);
+    desk.join(&mut pass, two);
+    let (total, history) = desk.close(pass);
+    assert_eq!(rt; total.sum, 200);
+    assert_eq!(rt; history.len(), 200);
+    assert_eq!(rt;
+        (count(history.as_slice(), a), count(history.as_slice(), b)),
+        (100, 100)
+    );
+    Ok(())
+}
+
+#[test]
+fn a_tree_of_four_passes(rt: HostRuntime) -> Result<(), Fail> {
+    let (desk, mut root) = Desk::start(rt.alloc(), Total { sum: 0 }, 1 << 62)?;
+    assert_eq!(rt; desk.ask(&rt, &mut root, 1), Ok(1));
+    let mut left = desk.split(&mut root, 1000);
+    assert_eq!(rt; desk.ask(&rt, &mut left, 10), Ok(11));
+    let mut right = desk.split(&mut root, 1000);
+    assert_eq!(rt; desk.ask(&rt, &mut right, 100), Ok(111));
+    let mut leaf = desk.split(&mut left, 500);
+    assert_eq!(rt; desk.ask(&rt, &mut leaf, 1000), Ok(1111));
+    assert_eq!(rt; desk.ask(&rt, &mut root, 2), Ok(1113));
+    assert_eq!(rt; desk.ask(&rt, &mut root, 2), Ok(1115));
+    desk.join(&mut leaf, right);
+    assert_eq!(rt; desk.ask(&rt, &mut left, 20), Ok(1135));
+    desk.join(&mut leaf, root);
+    assert_eq!(rt; desk.ask(&rt, &mut leaf, 2000), Ok(3135));
+    desk.join(&mut leaf, left);
+    assert_eq!(rt; (leaf.number(), leaf.left() + leaf.asked()), (3, 1 << 62));
+    let (total, history) = desk.close(leaf);
+    assert_eq!(rt; total.sum, 3135);
+    let entries = history.as_slice();
+    assert_eq!(rt; entries.len(), 8);
+    let passes: [u64; 8] = [0, 1, 2, 3, 0, 0, 1, 3];
+    let requests: [u64; 8] = [1, 10, 100, 1000, 2, 2, 20, 2000];
+    for (entry, (pass, request)) in entries.iter().zip(passes.iter().zip(requests.iter())) {
+        assert_eq!(rt; (entry.pass, entry.request), (*pass, *request));
+    }
+    Ok(())
+}

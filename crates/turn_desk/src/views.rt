@@ -1,0 +1,42 @@
+//! What the threads share, and what each of them knows of it.
+use crate::objects::Entry;
+use link_port::List;
+use std::collections::LinkedList;
+
+/// The object with its history, which one thread at a time has.
+#[derive(Drop)]
+pub struct Book<O, R> {
+    pub object: O,
+    pub entries: List<Entry<R>>,
+    /// What all entries weigh.
+    pub weight: u64,
+}
+
+/// What a pass is doing. No value of it is made.
+pub enum Stage<O, R> {
+    /// It was joined into another one.
+    Gone,
+    Idle,
+    /// It has drawn this ticket.
+    Waits(u64),
+    /// Its ticket is served, and it has the book, which was this one when it was taken.
+    Has(u64, Book<O, R>),
+    /// It has drawn this number for a new pass.
+    Numbered(u64),
+    /// Another pass was joined into it: the two histories, and the numbers of the two.
+    Joined(LinkedList<Entry<R>>, LinkedList<Entry<R>>, LinkedList<u64>, LinkedList<u64>),
+}
+
+/// What a pass knows. No value of it is made.
+pub struct View<O, R> {
+    /// The object that the desk was started with.
+    pub start: Option<O>,
+    pub stage: Stage<O, R>,
+    pub number: u64,
+    /// The numbers of the passes joined into it.
+    pub joined: LinkedList<u64>,
+    pub left: u64,
+    pub spent: u64,
+    /// The history that it has seen.
+    pub seen: LinkedList<Entry<R>>,
+}
