@@ -26,7 +26,8 @@ pub enum Next<'a> {
 ///
 /// Room for the limit and one byte is reserved once, and no call takes memory after that. A payload
 /// is lent where it lies: bytes move to the front of the room only in a `feed` that finds too little
-/// room at its end. No byte is searched for a NUL twice.
+/// room at the end of the part in use. That part grows only where it must, so short messages use a
+/// small part of the room again and again. No byte is searched for a NUL twice.
 #[derive(Drop)]
 pub struct Frames {
     limit: u64,
@@ -35,6 +36,8 @@ pub struct Frames {
     start: usize,
     /// So many of the bytes held are known to hold no NUL.
     searched: usize,
+    /// The length of the part of the room in use: the most that the buffer ever had.
+    in_use: usize,
 }
 
 impl Model for Frames {
@@ -66,6 +69,7 @@ impl Frames {
             buffer,
             start: 0,
             searched: 0,
+            in_use: 0,
         })
     }
 
@@ -76,11 +80,14 @@ impl Frames {
         let room = self.limit as usize + 1;
         let held = self.buffer.len() - self.start;
         let taken = piece.len().min(room - held);
-        if room - self.buffer.len() < taken {
+        // A move within the part in use is paid for by the bytes that were given before.
+        let in_use = self.in_use.saturating_sub(self.buffer.len());
+        if room - self.buffer.len() < taken || (in_use < taken && held <= self.start) {
             slide(&mut self.buffer, self.start);
             self.start = 0;
         }
         append(&mut self.buffer, &piece[..taken]);
+        self.in_use = self.in_use.max(self.buffer.len());
         taken
     }
 
