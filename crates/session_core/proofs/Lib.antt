@@ -2,3 +2,4 @@ pub mod RunLemmas
 pub mod WriteLemmas
 pub mod WentLemmas
 pub mod ServeLemmas
+pub mod StreamLemmas

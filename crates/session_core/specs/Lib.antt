@@ -4,6 +4,7 @@ pub mod Seen
 pub mod Steps
 pub mod Writes
 pub mod Served
+pub mod Streams
 pub mod Went
 pub mod Kept
 pub mod Messages

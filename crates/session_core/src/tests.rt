@@ -83,7 +83,7 @@ fn a_session_goes_step_by_step(rt: HostRuntime) -> Result<(), Fail> {
     let mut sink = MemSink::new(alloc, 64, List::new(alloc), List::new(alloc))?;
     assert_eq!(rt;
         session.feed(b"{\"method\":\"a.b.C\",\"upgrade\":true}\0x"),
-        36
+        35
     );
     assert_eq!(rt; session.taken(), 35);
     let Turn::Call(call) = session.next(alloc) else {
