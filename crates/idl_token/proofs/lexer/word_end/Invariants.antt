@@ -1,0 +1,14 @@
+use Rattle.std.proofs.Common.{length, drop, ◌-◌, ◌≡◌, ◌+◌, ◌≤◌}
+use Rattle.std.specs.List.{prefix_len}
+use Rattle.idl_token.specs.Lex.{is_word_byte}
+use Rattle.idl_token.proofs.lexer.word_end.Given as goal
+
+abbrev pub invariant-loop-end : goal.invariant-loop-end
+invariant-loop-end l =
+    record {
+      within : l.end ≤ length l.text;
+      left : l.end + prefix_len is_word_byte (drop l.end l.text) ≡ l.at + prefix_len is_word_byte (drop l.at l.text);
+    }
+
+abbrev pub decreases-loop-end : goal.decreases-loop-end
+decreases-loop-end l = length l.text - l.end

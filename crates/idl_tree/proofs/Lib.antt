@@ -1,0 +1,4 @@
+pub mod BracketNames
+pub mod FirstPlaces
+pub mod MemberNames
+pub mod Opened

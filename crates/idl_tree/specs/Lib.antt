@@ -1,0 +1,5 @@
+pub mod Checks
+pub mod Faults
+pub mod Form
+pub mod Names
+pub mod Places

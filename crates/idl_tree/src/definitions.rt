@@ -1,0 +1,119 @@
+ghost use Rattle.std.specs.Prelude.{◌≡◌, ◌≤◌, IfOk, option_map, find, slice_get};
+ghost use Rattle.std.specs.Option.{option_copied};
+ghost use Rattle.idl_tree.specs.Form.{Form, Deep};
+ghost use Rattle.idl_tree.specs.Faults.{Answers, Good, first_fault, type_named, method_named, error_named, part_named, is_named};
+
+use crate::checks::check_members;
+use crate::faults::NameFault;
+use crate::places::Index;
+use crate::spaces::Space;
+use crate::trees::{Body, Interface, Member, Part};
+use std::alloc::Global;
+use std::marker::Model;
+
+/// A tree in form whose names are unique and defined. Contracts see the tree.
+#[derive(Drop)]
+pub struct Checked {
+    tree: Interface,
+    index: Index,
+}
+
+impl Model for Checked {
+    ghost use Rattle.idl_tree.specs.declared.trees.Interface.{Interface};
+    ghost use Rattle.idl_tree.specs.contracts.trees.Interface as stored;
+
+    ghost Value = { Interface };
+
+    ghost coded = { stored.the_row.coded };
+
+    ghost use Rattle.idl_tree.specs.Checks.{IsChecked};
+
+    ghost view = { λ checked. checked.tree };
+
+    ghost invariant = { λ checked. IsChecked checked.tree checked.index };
+}
+
+impl Checked {
+    /// Checks the names of a tree in form: in each of the three name spaces and in each bracket a name
+    /// stands once, and each name that is used as a type is defined by a `type` member. The names are
+    /// visited in text order, and the first fault is given.
+    pub fn of(alloc: Global, tree: Interface) -> Result<Checked, NameFault>
+        requires formed { Form tree }
+        requires within { Deep tree ≤ 64 }
+        ensures checked { IfOk result (λ checked. checked ≡ tree) }
+        ensures answer { Answers result (first_fault tree) }
+    {
+        let index = Index::of(alloc, tree.members.as_slice())?;
+        if let Err(fault) = check_members(alloc, tree.members.as_slice(), &index) {
+            return Err(fault);
+        }
+        Ok(Checked { tree, index })
+    }
+
+    /// Lends the tree.
+    pub fn tree(&self) -> &Interface
+        ensures tree { result.now ≡ self.now }
+        ensures formed { Form self.now }
+        ensures within { Deep self.now ≤ 64 }
+        ensures good { Good self.now }
+    {
+        &self.tree
+    }
+
+    /// The body that the type of that name stands for, and None where there is no such type.
+    pub fn lookup_type(&self, name: &str) -> Option<&Body>
+        ensures { option_copied result ≡ type_named name.now self.now }
+    {
+        match self.part(Space::Types, name) {
+            Some(Part::Shape(body)) => Some(body),
+            _ => None,
+        }
+    }
+
+    /// The parameters and the reply of the method of that name, and None where there is no such method.
+    pub fn method(&self, name: &str) -> Option<(&Body, &Body)>
+        ensures { option_map (λ bodies. (bodies.0.now, bodies.1.now)) result
+            ≡ method_named name.now self.now }
+    {
+        match self.part(Space::Methods, name) {
+            Some(Part::Method { input, output }) => Some((input, output)),
+            _ => None,
+        }
+    }
+
+    /// The parameters of the error of that name, and None where there is no such error.
+    pub fn error_of(&self, name: &str) -> Option<&Body>
+        ensures { option_copied result ≡ error_named name.now self.now }
+    {
+        match self.part(Space::Errors, name) {
+            Some(Part::Fault(body)) => Some(body),
+            _ => None,
+        }
+    }
+
+    // The part of the member of that name.
+    fn part(&self, space: Space, name: &str) -> Option<&Part>
+        ensures { option_copied result ≡ part_named space name.now self.now }
+    {
+        match self.member(space, name) {
+            Some(member) => Some(&member.part),
+            None => None,
+        }
+    }
+
+    // The first member of that name.
+    fn member(&self, space: Space, name: &str) -> Option<&Member>
+        ensures { option_copied result ≡ find (is_named space name.now) self.now.members }
+    {
+        match self.index.place(space, name) {
+            Some(place) => member_at(self.tree.members.as_slice(), place),
+            None => None,
+        }
+    }
+}
+
+fn member_at(members: &[Member], place: usize) -> Option<&Member>
+    ensures { option_copied result ≡ slice_get members.now place }
+{
+    members.get(place)
+}

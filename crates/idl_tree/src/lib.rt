@@ -1,0 +1,21 @@
+//! The tree of a Varlink interface definition, the forms of its names, and the check of its names.
+#![tactic(auto)]
+
+mod checks;
+mod definitions;
+mod depths;
+mod faults;
+mod forms;
+mod names;
+mod places;
+mod spaces;
+mod trees;
+
+pub use definitions::Checked;
+pub use faults::NameFault;
+pub use forms::{MOST_BRACKETS, in_form};
+pub use names::{is_field_name, is_interface_name, is_member_name};
+pub use trees::{Body, Core, Field, Interface, Member, Named, Part, Prefix, TypeRef};
+
+#[cfg(test)]
+mod tests;
