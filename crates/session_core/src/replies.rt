@@ -37,7 +37,8 @@ pub trait Answerer {
     /// before.
     fn answer(&mut self, alloc: Global, call: &Call) -> Result<Self::Out, Memory>
         requires { IsObject call.now.parameters }
-        ensures told { IfOk result (λ replies. tells self.old call.now (Self.Out.left replies) self.new) }
+        ensures told { IfOk result (λ replies.
+            tells self.old call.now (Self.Out.left replies) self.new) }
         ensures fits { IfOk result (λ replies. Fits call.now (Self.Out.left replies)) }
         ensures memory { OnErr result (self.new ≡ self.old) };
 }

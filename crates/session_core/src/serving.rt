@@ -39,9 +39,11 @@ fn take_some<S: Source>(source: &mut S, buffer: &mut [u8], most: u64) -> Result<
 /// Passes on the raw bytes held, and stops where as many were taken as a session takes.
 fn pass_raw<K: Sink>(alloc: Global, session: &mut Session, sink: &mut K) -> Option<Stop>
     requires { IsRaw session.old.phase }
-    ensures passed { IfNone result (Passed session.old session.new (K.written sink.old) (K.written sink.new)) }
+    ensures passed { IfNone result
+        (Passed session.old session.new (K.written sink.old) (K.written sink.new)) }
     ensures ready { IfNone result (IsReady session.new) }
-    ensures stopped { IfSome result (PassedUntil session.old (K.written sink.old) (K.written sink.new)) }
+    ensures stopped { IfSome result
+        (PassedUntil session.old (K.written sink.old) (K.written sink.new)) }
     ensures why { IfSome result IsHalt }
     ensures faults { MatchOption result (K.write_faults sink.new ≡ K.write_faults sink.old)
         (λ stop. WriteFaults stop (K.write_faults sink.old) (K.write_faults sink.new)) }
@@ -67,11 +69,13 @@ fn answer_one<K: Sink, A: Answerer>(
 ) -> Option<Stop>
     requires waits { session.old.phase ≡ Phase.Waiting call.oneway }
     requires object { IsObject call.parameters }
-    ensures answered { IfNone result (Answered A.tells session.old session.new call answerer.old answerer.new
+    ensures answered { IfNone result
+        (Answered A.tells session.old session.new call answerer.old answerer.new
         (K.written sink.old) (K.written sink.new)) }
     ensures broke { IfSome result (λ stop.
         BrokeOff A.tells call answerer.old answerer.new (K.written sink.old) (K.written sink.new)
-        ⊎ Unanswered A.tells answerer.old answerer.new (K.written sink.old) (K.written sink.new) stop) }
+        ⊎ Unanswered A.tells answerer.old answerer.new
+        (K.written sink.old) (K.written sink.new) stop) }
     ensures why { IfSome result IsBreak }
     ensures faults { MatchOption result (K.write_faults sink.new ≡ K.write_faults sink.old)
         (λ stop. WriteFaults stop (K.write_faults sink.old) (K.write_faults sink.new)) }
@@ -96,7 +100,8 @@ fn drain<K: Sink, A: Answerer>(
     answerer: &mut A,
 ) -> Option<Stop>
     requires { IsRunning session.old.phase }
-    ensures went { IfNone result (Went A.tells session.old session.new [] answerer.old answerer.new
+    ensures went { IfNone result
+        (Went A.tells session.old session.new [] answerer.old answerer.new
         (K.written sink.old) (K.written sink.new)) }
     ensures ready { IfNone result (IsReady session.new) }
     ensures halts { IfSome result (Halts A.tells session.old [] answerer.old answerer.new

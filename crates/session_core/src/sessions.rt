@@ -57,7 +57,13 @@ impl Model for Session {
 
     ghost Value = { Seen };
 
-    ghost view = { λ s. record { limit = s.frames.limit; phase = s.phase; index = s.index; taken = s.taken; held = s.frames.bytes } };
+    ghost view = { λ s. record {
+      limit = s.frames.limit;
+      phase = s.phase;
+      index = s.index;
+      taken = s.taken;
+      held = s.frames.bytes;
+    } };
 
     ghost invariant = { λ s. IsCounted s.index s.taken s.frames };
 }
@@ -139,16 +145,20 @@ impl Session {
         requires waits { IsWaiting self.old.phase }
         requires writable { AllByRecursion IsWritable (P.left replies.old).replies }
 
-        ensures state { OnOk result (self.new ≡ record self.old { phase = replied_phase (P.left replies.old).raw }) }
-        ensures run { OnOk result
-            (Moves self.old self.new [] (P.left replies.old ∷ []) [] (texts_in self.old.phase (P.left replies.old))) }
+        ensures state { OnOk result
+            (self.new ≡ record self.old { phase = replied_phase (P.left replies.old).raw }) }
+        ensures run { OnOk result (Moves self.old self.new [] (P.left replies.old ∷ []) []
+            (texts_in self.old.phase (P.left replies.old))) }
         ensures wrote { OnOk result (Appends (K.written sink.old) (K.written sink.new)
             (texts_in self.old.phase (P.left replies.old))) }
         ensures sound { OnOk result (K.write_faults sink.new ≡ K.write_faults sink.old) }
 
-        ensures stopped { IfErr result (λ stop. self.new ≡ record self.old { phase = Phase.Stopped stop }) }
-        ensures part { IfErr result (λ stop. BreaksOff stop (asked_in self.old.phase (P.left replies.old).replies)
-            (K.written sink.old) (K.written sink.new) (K.write_faults sink.old) (K.write_faults sink.new)) }
+        ensures stopped { IfErr result (λ stop.
+            self.new ≡ record self.old { phase = Phase.Stopped stop }) }
+        ensures part { IfErr result (λ stop.
+            BreaksOff stop (asked_in self.old.phase (P.left replies.old).replies)
+            (K.written sink.old) (K.written sink.new)
+            (K.write_faults sink.old) (K.write_faults sink.new)) }
         ensures other { IsAsBefore (K.left sink.old) (K.left sink.new)
             (K.read_faults sink.old) (K.read_faults sink.new) }
     {
@@ -169,13 +179,15 @@ impl Session {
         requires { IsRaw self.old.phase }
 
         ensures state { OnOk result (self.new ≡ record self.old { held = [] }) }
-        ensures run { OnOk result (Moves self.old self.new [] [] [] (echoed_in self.old.phase self.old.held)) }
+        ensures run { OnOk result
+            (Moves self.old self.new [] [] [] (echoed_in self.old.phase self.old.held)) }
         ensures wrote { OnOk result (Appends (K.written sink.old) (K.written sink.new)
             (echoed_in self.old.phase self.old.held)) }
         ensures sound { OnOk result (K.write_faults sink.new ≡ K.write_faults sink.old) }
 
         ensures stopped { IfErr result (λ stop.
-            (stop ≡ Stop.WriteFault) × (self.new ≡ record self.old { phase = Phase.Stopped stop })) }
+            (stop ≡ Stop.WriteFault)
+            × (self.new ≡ record self.old { phase = Phase.Stopped stop })) }
         ensures part { OnErr result (AppendsFront (K.written sink.old) (K.written sink.new)
             (echoed_in self.old.phase self.old.held)) }
         ensures fault { OnErr result (Rises (K.write_faults sink.old) (K.write_faults sink.new)) }
