@@ -1,0 +1,15 @@
+//! Prints the canonical text of a Varlink interface definition.
+#![tactic(auto)]
+
+mod flat_lines;
+mod opened_lines;
+mod pieces;
+mod printing;
+mod rooms;
+mod writing;
+
+pub use printing::text;
+pub use writing::{PrintFault, write};
+
+#[cfg(test)]
+mod tests;

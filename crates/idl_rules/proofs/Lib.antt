@@ -1,0 +1,13 @@
+pub mod OpenedCores
+pub mod Folds
+pub mod Spelled
+pub mod Words
+pub mod Steps
+pub mod Trims
+pub mod Runs
+pub mod Uniqueness
+pub mod Trees
+pub mod Texts
+pub mod Views
+pub mod Completes
+pub mod LastPrefix
