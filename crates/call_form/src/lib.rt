@@ -6,11 +6,13 @@ ghost use Rattle.std.specs.Prelude.{◌≡◌, ◌↔◌, IsTrue};
 use link_port::{List, Memory, Text, Value};
 
 mod errors;
+mod interfaces;
 mod laws;
 mod reading;
 mod writing;
 
 pub use errors::standard;
+pub use interfaces::{RESOLVER_TEXT, SERVICE_TEXT};
 pub use laws::{calls_are, one_message};
 pub use reading::read_call;
 pub use writing::reply_text;

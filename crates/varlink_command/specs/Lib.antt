@@ -1,3 +1,4 @@
+pub mod Definitions
 pub mod FaultLine
 pub mod FixedService
 pub mod Lines

@@ -14,12 +14,15 @@ use Rattle.varlink_command.specs.FaultLine.{fault_line}
 use Rattle.varlink_command.specs.FixedService.{fixed_outcome}
 use Rattle.varlink_command.specs.Statuses.{fault_of, status}
 
--- the line of a fault was written to the sink of faults, or that sink failed and a front of the line stands there;
--- where there is no fault, nothing was written
+-- a line was written to the sink of faults, or that sink failed and a front of the line stands there
+abbrev pub TellsLine : List ℕ → Option (List ℕ) → Option (List ℕ) → ℕ → ℕ → Type 0
+TellsLine line before now faults faults' =
+    (Appends before now line × (faults' ≡ faults)) ⊎ (AppendsFront before now line × Rises faults faults')
+
+-- the line of a fault was told; where there is no fault, nothing was written
 abbrev pub Tells : Option Fault → Option (List ℕ) → Option (List ℕ) → ℕ → ℕ → Type 0
 Tells None before now faults faults' = (now ≡ before) × (faults' ≡ faults)
-Tells (Some why) before now faults faults' =
-    (Appends before now (fault_line why) × (faults' ≡ faults)) ⊎ (AppendsFront before now (fault_line why) × Rises faults faults')
+Tells (Some why) before now faults faults' = TellsLine (fault_line why) before now faults faults'
 
 -- `session` was served without a sheet: these bytes were taken, these calls were answered, each by the fixed service, and
 -- what was written and the stop are those of the session machine over these bytes

@@ -1,10 +1,30 @@
 -- What the words of a command line mean.
-use Rattle.std.specs.Prelude.{ℕ, ◌==◌, List, [], ◌∷◌, codes, if◌then◌else◌, Option, Some, None}
+use Rattle.std.specs.Prelude.{ℕ, ◌==◌, ◌&&◌, Bool, false, List, [], ◌∷◌, codes, if◌then◌else◌, Option, Some, None}
 use Rattle.std.specs.Cmp.Lexicographic.{pointwise}
 use Rattle.varlink_command.specs.declared.words.Command.{Command}
-use Rattle.varlink_command.specs.declared.words.Command.TheVariants.{Session}
+use Rattle.varlink_command.specs.declared.words.Command.TheVariants.{Session, Check, Format}
 
--- the word `session` alone; no other words are a command
+abbrev pub is_word : List ℕ → List ℕ → Bool
+is_word word other = pointwise ◌==◌ word other
+
+-- the word begins with `--`
+abbrev pub is_option : List ℕ → Bool
+is_option [] = false
+is_option (b ∷ []) = false
+is_option (b ∷ c ∷ bytes) = (b == 45) && (c == 45)
+
+-- the command whose word takes a path
+abbrev pub path_command : List ℕ → Option Command
+path_command word = if is_word word (codes "check") then Some Check
+    else (if is_word word (codes "format") then Some Format else None)
+
+-- `session`, `check PATH` and `format PATH`; no option is known, and no other words are a command
 abbrev pub command : List (List ℕ) → Option Command
-command (word ∷ []) = if pointwise ◌==◌ word (codes "session") then Some Session else None
+command (word ∷ []) = if is_word word (codes "session") then Some Session else None
+command (word ∷ path ∷ []) = if is_option path then None else path_command word
 command _ = None
+
+-- the path behind a command's word
+abbrev pub path_of : List (List ℕ) → List ℕ
+path_of (word ∷ path ∷ []) = path
+path_of _ = []

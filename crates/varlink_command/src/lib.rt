@@ -2,11 +2,13 @@
 #![tactic(auto)]
 
 mod commands;
+mod definitions;
 mod fault_lines;
 mod pieces;
 mod real_files;
 mod real_streams;
 mod services;
+mod showing;
 mod words;
 mod worlds;
 
@@ -16,6 +18,8 @@ pub use real_files::RealFiles;
 pub use real_streams::{RealInput, RealOutput};
 pub use worlds::{Desktop, Status};
 
+#[cfg(test)]
+mod definition_tests;
 #[cfg(test)]
 mod session_tests;
 #[cfg(test)]

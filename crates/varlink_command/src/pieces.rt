@@ -42,3 +42,16 @@ pub fn put_number<K: Sink>(
     let mut digits = Buffer::new();
     put_texts(sink, &[before, digits.format(number), after])
 }
+
+/// Appends a text, a name, and a text. It takes no memory.
+///
+/// Where the sink fails, a front of them was appended.
+pub fn put_name<K: Sink>(sink: &mut K, before: &str, name: &str, after: &str) -> Result<(), Failed>
+    ensures all { PutsAll (K.written sink.old) (K.written sink.new)
+        (K.write_faults sink.old) (K.write_faults sink.new) result
+        (before.now ++ name.now ++ after.now) }
+    ensures other { IsAsBefore (K.left sink.old) (K.left sink.new)
+        (K.read_faults sink.old) (K.read_faults sink.new) }
+{
+    put_texts(sink, &[before, name, after])
+}

@@ -1,0 +1,57 @@
+use idl_token::TokenFault;
+use idl_tree::NameFault;
+use link_port::Memory;
+
+/// Why a text is no definition. Offsets are in bytes.
+#[derive(Drop)]
+pub enum IdlFault {
+    /// The text cannot be cut into items.
+    Token(TokenFault),
+    /// No definition goes on with the item at this offset; at the text's length, something is missing.
+    Syntax {
+        /// The item's offset, or the text's length.
+        at: u64,
+    },
+    /// More than 64 brackets are open with the `(` at this offset.
+    TooDeep {
+        /// The offset of the `(`.
+        at: u64,
+    },
+    /// A name stands twice, or a type is not defined.
+    Name(NameFault),
+    /// Memory was not granted.
+    Memory,
+}
+
+impl From<Memory> for IdlFault {
+    ghost use Rattle.std.specs.Prelude.{◌≡◌};
+    ghost use Rattle.idl_grammar.specs.declared.faults.IdlFault.TheVariants as fault;
+
+    ghost from_gives = { λ _ made. made ≡ fault.Memory };
+
+    fn from(_memory: Memory) -> IdlFault {
+        IdlFault::Memory
+    }
+}
+
+/// Why an item is not taken.
+#[derive(Drop)]
+pub enum Stop {
+    /// No definition goes on with it.
+    Stray,
+    /// It is a bracket that is too deep.
+    Beyond,
+    /// Memory was not granted.
+    Memory,
+}
+
+impl From<Memory> for Stop {
+    ghost use Rattle.std.specs.Prelude.{◌≡◌};
+    ghost use Rattle.idl_grammar.specs.declared.faults.Stop.TheVariants as stop;
+
+    ghost from_gives = { λ _ made. made ≡ stop.Memory };
+
+    fn from(_memory: Memory) -> Stop {
+        Stop::Memory
+    }
+}

@@ -1,0 +1,152 @@
+ghost use Rattle.std.specs.Prelude.{◌≡◌, ◌≤◌, [], ◌∷◌, IfOk, IsUtf8, All, map};
+ghost use Rattle.idl_token.specs.Lex.{Lexemes, lexeme};
+ghost use Rattle.idl_tree.specs.declared.trees.Interface.{Interface};
+ghost use Rattle.idl_rules.specs.Settle.{note_text};
+ghost use Rattle.idl_rules.specs.Spells.{Accepts};
+ghost use Rattle.idl_rules.specs.Reading.{run, Read};
+ghost use Rattle.idl_rules.specs.declared.states.State.TheVariants.{Start};
+ghost use Rattle.idl_grammar.specs.Follows.{Continues, Reads, IsReadable};
+ghost use Rattle.idl_grammar.specs.Refuses.{Answers, Gives};
+ghost use Rattle.idl_grammar.specs.Follows.{TreeOf, Checks, of_token, of_name};
+ghost use Rattle.idl_tree.specs.Form.{Form, Deep};
+
+use crate::faults::{IdlFault, Stop};
+use crate::steps::{is_slot, read_plain, read_slot};
+use crate::words::{text_of, trimmed};
+use idl_rules::State;
+use idl_token::{Item, ItemKind, TokenFault, items};
+use idl_tree::{Checked, Interface, NameFault};
+use link_port::{List, Memory, Text};
+use std::alloc::Global;
+
+/// What was read, with the notes whose slot is to come.
+#[derive(Drop)]
+pub struct Progress {
+    pub state: State,
+    pub waiting: List<Text>,
+}
+
+/// Reads an interface definition, notes included.
+///
+/// It is accepted exactly where the text spells a tree, its brackets are at most 64 deep, and its
+/// names are unique and defined; such a text is refused for want of memory alone.
+pub fn read(alloc: Global, text: &[u8]) -> Result<Checked, IdlFault>
+    ensures answer { Answers result text.now }
+    ensures complete { (tree : Interface) → Accepts text.now tree → Gives result tree }
+{
+    match read_tree(alloc, text) {
+        Ok(tree) => check_names(alloc, tree),
+        Err(fault) => Err(fault),
+    }
+}
+
+// Reads the tree that the text spells.
+fn read_tree(alloc: Global, text: &[u8]) -> Result<Interface, IdlFault>
+    ensures { TreeOf result text.now }
+{
+    match items(alloc, text) {
+        Ok(items) => read_items(alloc, items.as_slice(), text.len() as u64),
+        Err(fault) => Err(token_fault(fault)),
+    }
+}
+
+fn token_fault(fault: TokenFault) -> IdlFault
+    ensures { result ≡ of_token fault }
+{
+    match fault {
+        TokenFault::Memory => IdlFault::Memory,
+        TokenFault::NotUtf8 { at } => IdlFault::Token(TokenFault::NotUtf8 { at }),
+        TokenFault::BadByte { at } => IdlFault::Token(TokenFault::BadByte { at }),
+    }
+}
+
+// Checks the names of the tree.
+fn check_names(alloc: Global, tree: Interface) -> Result<Checked, IdlFault>
+    requires formed { Form tree }
+    requires within { Deep tree ≤ 64 }
+    ensures { Checks result tree }
+{
+    match Checked::of(alloc, tree) {
+        Ok(checked) => Ok(checked),
+        Err(fault) => Err(name_fault(fault)),
+    }
+}
+
+fn name_fault(fault: NameFault) -> IdlFault
+    ensures { result ≡ of_name fault }
+{
+    match fault {
+        NameFault::Memory => IdlFault::Memory,
+        fault => IdlFault::Name(fault),
+    }
+}
+
+// Reads the tree of the items of a text of length `end`.
+fn read_items(alloc: Global, items: &[Item<'_>], end: u64) -> Result<Interface, IdlFault>
+    requires { All IsReadable items.now }
+    ensures { Reads result (run 64 Start [] (map lexeme items.now)) }
+{
+    let mut progress = Progress {
+        state: State::Start,
+        waiting: List::new(alloc),
+    };
+    for item in items {
+        progress = match read_item(alloc, progress, item) {
+            Ok(next) => next,
+            Err(Stop::Stray) => return Err(IdlFault::Syntax { at: item.at }),
+            Err(Stop::Beyond) => return Err(IdlFault::TooDeep { at: item.at }),
+            Err(Stop::Memory) => return Err(IdlFault::Memory),
+        };
+    }
+    finished(progress, end)
+}
+
+// The tree, where a definition is whole.
+fn finished(progress: Progress, end: u64) -> Result<Interface, IdlFault>
+    ensures { Reads result (Read progress.state progress.waiting) }
+{
+    let Progress { state, waiting } = progress;
+    match state {
+        State::Between { head } => Ok(Interface {
+            notes: head.notes,
+            name: head.name,
+            members: head.members,
+            tail: waiting,
+        }),
+        _ => Err(IdlFault::Syntax { at: end }),
+    }
+}
+
+// Takes one more item.
+fn read_item(alloc: Global, progress: Progress, item: &Item<'_>) -> Result<Progress, Stop>
+    requires { IsReadable item.now }
+    ensures { (items : Lexemes) → Continues result (run 64 progress.state progress.waiting (lexeme item.now ∷ items)) items }
+{
+    let Progress { state, waiting } = progress;
+    if item.kind == ItemKind::Note {
+        let mut waiting = waiting;
+        waiting.push(note_of(alloc, item.text)?)?;
+        return Ok(Progress { state, waiting });
+    }
+    if is_slot(&state, item) {
+        let state = read_slot(alloc, state, waiting, item)?;
+        Ok(Progress {
+            state,
+            waiting: List::new(alloc),
+        })
+    } else {
+        let state = read_plain(alloc, state, item)?;
+        Ok(Progress { state, waiting })
+    }
+}
+
+// The text of a note, which follows its `#`.
+fn note_of(alloc: Global, spelling: &[u8]) -> Result<Text, Memory>
+    requires { IsUtf8 (note_text spelling.now) }
+    ensures { IfOk result (λ text. text ≡ note_text spelling.now) }
+{
+    match spelling {
+        [_, text @ ..] => Text::of(alloc, text_of(trimmed(text))),
+        [] => Text::of(alloc, ""),
+    }
+}

@@ -1,0 +1,71 @@
+// What is shown of a definition.
+ghost use Rattle.link_port.specs.Flow.{IsAsBefore};
+ghost use Rattle.varlink_command.specs.Definitions.{Shows};
+
+use crate::pieces::put_texts;
+use idl_tree::Checked;
+use link_port::{Failed, Sink};
+use std::alloc::Global;
+
+/// What is shown of a definition that is accepted.
+#[derive(Debug, Clone, Copy, PartialEq, Eq)]
+pub enum Showing {
+    /// `ok` and its name.
+    Name,
+    /// Its canonical text.
+    Text,
+}
+
+/// Why a definition was not shown.
+#[derive(Debug, Clone, Copy, PartialEq, Eq)]
+pub enum Unshown {
+    /// The output failed.
+    WriteFault,
+    /// Memory was asked for and not granted.
+    Memory,
+}
+
+/// Shows a definition.
+pub fn show<O: Sink>(
+    alloc: Global,
+    showing: Showing,
+    tree: &Checked,
+    output: &mut O,
+) -> Result<(), Unshown>
+    ensures shows { Shows showing tree.now (O.written output.old) (O.written output.new)
+        (O.write_faults output.old) (O.write_faults output.new) result }
+    ensures other { IsAsBefore (O.left output.old) (O.left output.new)
+        (O.read_faults output.old) (O.read_faults output.new) }
+{
+    match showing {
+        Showing::Name => show_name(tree, output),
+        Showing::Text => show_text(alloc, tree, output),
+    }
+}
+
+fn show_name<O: Sink>(tree: &Checked, output: &mut O) -> Result<(), Unshown>
+    ensures shows { Shows Showing.Name tree.now (O.written output.old) (O.written output.new)
+        (O.write_faults output.old) (O.write_faults output.new) result }
+    ensures other { IsAsBefore (O.left output.old) (O.left output.new)
+        (O.read_faults output.old) (O.read_faults output.new) }
+{
+    match put_texts(output, &["ok ", tree.tree().name.as_str(), "\n"]) {
+        Ok(()) => Ok(()),
+        Err(Failed) => Err(Unshown::WriteFault),
+    }
+}
+
+fn show_text<O: Sink>(alloc: Global, tree: &Checked, output: &mut O) -> Result<(), Unshown>
+    ensures shows { Shows Showing.Text tree.now (O.written output.old) (O.written output.new)
+        (O.write_faults output.old) (O.write_faults output.new) result }
+    ensures other { IsAsBefore (O.left output.old) (O.left output.new)
+        (O.read_faults output.old) (O.read_faults output.new) }
+{
+    let Ok(text) = idl_print::text(alloc, tree) else {
+        return Err(Unshown::Memory);
+    };
+    match put_texts(output, &[text.as_str()]) {
+        Ok(()) => Ok(()),
+        Err(Failed) => Err(Unshown::WriteFault),
+    }
+}
