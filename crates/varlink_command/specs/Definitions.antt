@@ -1,5 +1,5 @@
 -- What the commands on definitions do.
-use Rattle.std.specs.Prelude.{◌≡◌, ℕ, ◌<◌, ◌≤◌, List, [], ◌∷◌, ◌++◌, length, codes, decimal, Result, Ok, Err, Option, Some, IfSome, ⊤}
+use Rattle.std.specs.Prelude.{◌≡◌, ℕ, ◌<◌, ◌≤◌, ◌⊎◌, List, [], ◌∷◌, ◌++◌, length, codes, decimal, Result, Ok, Err, Option, Some, IfSome, ⊤}
 use Rattle.std.specs.Io.KnownBytes.{Appends}
 use Rattle.link_port.specs.Faults.{Rises}
 use Rattle.link_port.specs.Flow.{AppendsFront}
@@ -65,6 +65,10 @@ ReadsDefinition held (Err unread.Memory) = ⊤
 abbrev pub FilesFault : ℕ → ℕ → Result Interface Unread → Type 0
 FilesFault before now (Err unread.Failed) = Rises before now
 FilesFault before now result = now ≡ before
+
+-- at most this one path was asked for, and once
+abbrev pub AsksOnce : Option (List (List ℕ)) → Option (List (List ℕ)) → List ℕ → Type 0
+AsksOnce before now path = IfSome before (λ paths. (now ≡ Some (paths ++ path ∷ [])) ⊎ (now ≡ Some paths))
 
 -- ---- it is shown
 

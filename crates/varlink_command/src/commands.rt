@@ -3,7 +3,7 @@ ghost use Rattle.std.specs.Prelude.{◌≡◌, ◌≢◌, ℕ, List, Some, None}
 ghost use Rattle.link_port.specs.Flow.{IsAsBefore};
 ghost use Rattle.varlink_command.specs.Statuses.{fault_of as stop_fault, status, status_of as fault_status};
 ghost use Rattle.varlink_command.specs.Offline.{RunsSession, Tells};
-ghost use Rattle.varlink_command.specs.Definitions.{EndsShown, RunsDefinition};
+ghost use Rattle.varlink_command.specs.Definitions.{AsksOnce, EndsShown, RunsDefinition};
 ghost use Rattle.varlink_command.specs.Words.{command, path_of as path_word};
 
 use crate::definitions::{read_definition, tell_unread};
@@ -60,6 +60,7 @@ pub fn offline<S: Source, O: Sink, E: Sink, F: Files>(
         result.0 }
 
     ensures files { command words.now ≡ Some Command.Session → world.new.files ≡ world.old.files }
+    ensures asked { AsksOnce (F.paths world.old.files) (F.paths world.new.files) (path_word words.now) }
     ensures input { command words.now ≢ Some Command.Session → world.new.input ≡ world.old.input }
     ensures kept { (name : List ℕ) → F.holds world.new.files name ≡ F.holds world.old.files name }
     ensures input_other { IsAsBefore (S.written world.old.input) (S.written world.new.input)
@@ -96,6 +97,7 @@ fn definition<S, O: Sink, E: Sink, F: Files>(
         (O.read_faults world.old.output) (O.read_faults world.new.output) }
     ensures faults_other { IsAsBefore (E.left world.old.faults) (E.left world.new.faults)
         (E.read_faults world.old.faults) (E.read_faults world.new.faults) }
+    ensures asked { AsksOnce (F.paths world.old.files) (F.paths world.new.files) path.now }
     ensures kept { (name : List ℕ) → F.holds world.new.files name ≡ F.holds world.old.files name }
 {
     match read_definition(alloc, &mut world.files, path) {

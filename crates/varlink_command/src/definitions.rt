@@ -1,7 +1,7 @@
 // Definitions are read from files, and why one was not is told.
 ghost use Rattle.std.specs.Prelude.{◌≡◌, ℕ, List, ◌++◌, IfSome, codes, decimal};
 ghost use Rattle.link_port.specs.Flow.{IsAsBefore};
-ghost use Rattle.varlink_command.specs.Definitions.{ReadsDefinition, FilesFault, name_text, refusal_text, unread_text, unread_status, line_of};
+ghost use Rattle.varlink_command.specs.Definitions.{AsksOnce, ReadsDefinition, FilesFault, name_text, refusal_text, unread_text, unread_status, line_of};
 ghost use Rattle.varlink_command.specs.Lines.{PutsAll};
 ghost use Rattle.varlink_command.specs.Offline.{TellsLine};
 
@@ -37,6 +37,7 @@ pub fn read_definition<F: Files>(
 ) -> Result<Checked, Unread>
     ensures reads { ReadsDefinition (F.holds files.old path.now) result }
     ensures counted { FilesFault (F.faults files.old) (F.faults files.new) result }
+    ensures asked { AsksOnce (F.paths files.old) (F.paths files.new) path.now }
     ensures kept { (name : List ℕ) → F.holds files.new name ≡ F.holds files.old name }
 {
     let bytes = match files.read(alloc, path, DEFINITION_LIMIT) {
