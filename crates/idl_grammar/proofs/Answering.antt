@@ -1,9 +1,9 @@
 -- what the reading of a text's items tells of the text
-use Rattle.std.proofs.Common.{◌≡◌, ℕ, ◌<◌, ◌≤◌, List, [], Option, None, Result, Ok, Err, Some, refl, sym, ap, subst, ◌∙◌, arith, inl, inr}
+use Rattle.std.proofs.Common.{◌≡◌, ℕ, ◌<◌, ◌≤◌, true, List, [], ◌∷◌, ◌++◌, map, length, append_assoc, ◌⊎◌, Option, None, Result, Ok, Err, Some, refl, sym, ap, subst, ◌∙◌, arith, inl, inr}
 use Rattle.std.proofs.lemmas.Bool.{cases_lt}
 use Rattle.std.specs.Str.{IsUtf8}
 use Rattle.std.specs.Str.Lossy.{utf8_valid_len}
-use Rattle.idl_token.specs.Lex.{Bytes, Lexemes, Lex, BadByteAt}
+use Rattle.idl_token.specs.Lex.{Bytes, Lexemes, Placed, Lex, LexAt, BadByteAt, lexeme, placed}
 use Rattle.idl_token.specs.declared.tokens.Item.{Item}
 use Rattle.idl_token.specs.declared.tokens.TokenFault.{TokenFault}
 use Rattle.idl_tree.specs.declared.trees.Interface.{Interface}
@@ -18,8 +18,16 @@ use Rattle.idl_tree.specs.declared.faults.NameFault.{NameFault}
 use Rattle.idl_tree.specs.declared.faults.NameFault.TheVariants as name
 use Rattle.idl_grammar.specs.declared.faults.IdlFault.{IdlFault}
 use Rattle.idl_grammar.specs.declared.faults.IdlFault.TheVariants as fault
-use Rattle.idl_grammar.specs.Follows.{Fails, Reads, TreeOf, Checks, of_name, of_token}
-use Rattle.idl_grammar.specs.Refuses.{Answers, Refuses, Gives, Misnames}
+use Rattle.std.proofs.lemmas.List.{map-append}
+use Rattle.std.proofs.lemmas.List.Folds.{list_all-append}
+use Rattle.std.proofs.lemmas.Bool.{and_parts}
+use Rattle.idl_rules.proofs.Fronts.{go_on, run_append}
+use Rattle.idl_rules.proofs.Stops.{stray_stops, taken_goes, deep_stop, front_depth}
+use Rattle.idl_rules.proofs.Uniqueness.{lex_good}
+use Rattle.idl_rules.specs.Spells.{GoesOn, greatest_depth, depth_at_end}
+use Rattle.idl_rules.specs.Reading.{note_good, notes_good}
+use Rattle.idl_grammar.specs.Follows.{Takes, StopsAt, EndsIn, Reads, TreeOf, Checks, of_name, of_token}
+use Rattle.idl_grammar.specs.Refuses.{Answers, Refuses, Gives, Misnames, unplaced, bare, Stands}
 
 pub spelled_by : (items : Lexemes) (text : Bytes) (tree : Interface) → Lex items text → run 64 Start [] items ≡ whole tree → Spells tree text
 spelled_by items text tree lex e = let is = read_tree 64 items text tree lex e in (is.form, (items, lex, is.settled))
@@ -27,19 +35,11 @@ spelled_by items text tree lex e = let is = read_tree 64 items text tree lex e i
 pub one_read : (items : Lexemes) (text : Bytes) (tree other : Interface) → Lex items text → run 64 Start [] items ≡ whole tree → Spells other text → Deep other ≤ 64 → tree ≡ other
 one_read items text tree other lex e spells within = whole_one tree other (sym e ∙ spelled_read 64 items text other lex spells within)
 
--- a reading that fails is that of no tree
-pub fails_all : (items : Lexemes) (text : Bytes) → Lex items text → (reading : Reading) → reading ≡ run 64 Start [] items → Fails reading → (tree : Interface) → Spells tree text → ⊥
-fails_all items text lex (Read state waiting) e fails tree spells =
-    elim (spelled_reading 64 items text tree lex spells) [
-      | inl far ↦ (let no : ◌≡◌ {A = Reading} (Read state waiting) TooFar = e ∙ far in absurd (cc))
-      | inr same ↦ fails tree (e ∙ same)
-    ]
-fails_all items text lex Strayed e fails tree spells =
-    elim (spelled_reading 64 items text tree lex spells) [
-      | inl far ↦ (let no : ◌≡◌ {A = Reading} Strayed TooFar = e ∙ far in absurd (cc))
-      | inr same ↦ (let no : ◌≡◌ {A = Reading} Strayed (whole tree) = e ∙ same in absurd (cc))
-    ]
-fails_all items text lex TooFar e fails tree spells = fails
+-- a reading that is neither of a tree nor too deep is that of no tree
+never : (items : Lexemes) (text : Bytes) → Lex items text → (run 64 Start [] items ≡ TooFar → ⊥) → ((tree : Interface) → run 64 Start [] items ≡ whole tree → ⊥)
+    → (tree : Interface) → Spells tree text → ⊥
+never items text lex near other tree spells =
+    elim (spelled_reading 64 items text tree lex spells) [ | inl far ↦ near far | inr same ↦ other tree same ]
 
 pub too_deep : (items : Lexemes) (text : Bytes) → Lex items text → run 64 Start [] items ≡ TooFar → (tree : Interface) → Spells tree text → 64 < Deep tree
 too_deep items text lex e tree spells =
@@ -48,13 +48,96 @@ too_deep items text lex e tree spells =
       | inr within ↦ (let no : ◌≡◌ {A = Reading} TooFar (whole tree) = sym e ∙ spelled_read 64 items text tree lex spells within in absurd (cc))
     ]
 
-pub tree_of : (items : Lexemes) (text : Bytes) → Lex items text → (result : Result Interface IdlFault) → Reads result (run 64 Start [] items) → TreeOf result text
-tree_of items text lex (Ok tree) e = let is = read_tree 64 items text tree lex e in ((is.form, (items, lex, is.settled)), is.within)
-tree_of items text lex (Err (fault.Token token)) e = absurd e
-tree_of items text lex (Err (fault.Syntax at)) e = ((items, lex), fails_all items text lex (run 64 Start [] items) refl e)
-tree_of items text lex (Err (fault.TooDeep at)) e = ((items, lex), too_deep items text lex e)
-tree_of items text lex (Err (fault.Name name)) e = absurd e
-tree_of items text lex (Err fault.Memory) e = tt
+bare_placed : (items : List Item) → bare (map placed items) ≡ map lexeme items
+bare_placed [] = refl
+bare_placed (item ∷ items) = ap (λ (rest : Lexemes). lexeme item ∷ rest) (bare_placed items)
+
+module _ (items : List Item) (text : Bytes) (lex : Lex (map lexeme items) text) (places : LexAt (length text) (map placed items) text) (reading : Reading) (at : ℕ) (stop : StopsAt reading items at) where
+  cut_whole : map lexeme items ≡ (map lexeme stop.front ++ lexeme stop.item ∷ []) ++ map lexeme stop.rest
+  cut_whole = ap (map lexeme) stop.whole ∙ map-append lexeme stop.front (stop.item ∷ stop.rest)
+      ∙ sym (append_assoc (map lexeme stop.front) (lexeme stop.item ∷ []) (map lexeme stop.rest))
+
+  cut_run : run 64 Start [] (map lexeme items) ≡ go_on 64 reading (map lexeme stop.rest)
+  cut_run = ap (λ (x : Lexemes). run 64 Start [] x) cut_whole
+      ∙ run_append 64 Start [] (map lexeme stop.front ++ lexeme stop.item ∷ []) (map lexeme stop.rest)
+      ∙ ap (λ (r : Reading). go_on 64 r (map lexeme stop.rest)) stop.stopped
+
+  both_good : notes_good (map lexeme stop.front ++ lexeme stop.item ∷ []) ≡ true
+  both_good = (and_parts (notes_good (map lexeme stop.front ++ lexeme stop.item ∷ [])) (notes_good (map lexeme stop.rest))
+      (sym (list_all-append note_good (map lexeme stop.front ++ lexeme stop.item ∷ []) (map lexeme stop.rest)) ∙ ap notes_good (sym cut_whole) ∙ lex_good (map lexeme items) text lex)).0
+
+  front_good : notes_good (map lexeme stop.front) ≡ true
+  front_good = (and_parts (notes_good (map lexeme stop.front)) (notes_good (lexeme stop.item ∷ []))
+      (sym (list_all-append note_good (map lexeme stop.front) (lexeme stop.item ∷ [])) ∙ both_good)).0
+
+  stands : Stands text (map placed stop.front) (placed stop.item) (map placed stop.rest) at
+  stands = record {
+    items = subst (λ (x : List Placed). LexAt (length text) x text) (ap (map placed) stop.whole ∙ map-append placed stop.front (stop.item ∷ stop.rest)) places;
+    place = stop.place;
+  }
+
+stray_at : (items : List Item) (text : Bytes) → Lex (map lexeme items) text → LexAt (length text) (map placed items) text → (at : ℕ) → StopsAt Strayed items at → Refuses (fault.Syntax at) text
+stray_at items text lex places at stop =
+    let run_is : run 64 Start [] (map lexeme items) ≡ Strayed = cut_run items text lex places Strayed at stop in
+    let both = both_good items text lex places Strayed at stop in
+    let good = front_good items text lex places Strayed at stop in
+    let same = bare_placed stop.front in
+    ((map lexeme items, lex),
+      never (map lexeme items) text lex
+        (λ far. let no : ◌≡◌ {A = Reading} Strayed TooFar = sym run_is ∙ far in absurd (cc))
+        (λ tree is. let no : ◌≡◌ {A = Reading} Strayed (whole tree) = sym run_is ∙ is in absurd (cc)),
+      inl (record {
+        front = map placed stop.front;
+        item = placed stop.item;
+        rest = map placed stop.rest;
+        stands = stands items text lex places Strayed at stop;
+        goes = subst GoesOn (sym same) (taken_goes 64 (omega arith) (map lexeme stop.front) stop.taken.0 stop.taken.1 good stop.taken.2);
+        stops = λ goes. stray_stops 64 (map lexeme stop.front ++ lexeme stop.item ∷ []) both stop.stopped (subst (λ (x : Lexemes). GoesOn (x ++ lexeme stop.item ∷ [])) same goes);
+        within = subst (λ (x : Lexemes). greatest_depth 0 x ≤ 64) (sym same) (front_depth 64 (map lexeme stop.front) stop.taken.0 stop.taken.1 good stop.taken.2);
+      }))
+
+deep_at : (items : List Item) (text : Bytes) → Lex (map lexeme items) text → LexAt (length text) (map placed items) text → (at : ℕ) → StopsAt TooFar items at → Refuses (fault.TooDeep at) text
+deep_at items text lex places at stop =
+    let both = both_good items text lex places TooFar at stop in
+    let good = front_good items text lex places TooFar at stop in
+    let same = bare_placed stop.front in
+    let deep = deep_stop 64 (map lexeme stop.front) (lexeme stop.item) stop.taken.0 stop.taken.1 both good stop.taken.2 stop.stopped in
+    ((map lexeme items, lex),
+      too_deep (map lexeme items) text lex (cut_run items text lex places TooFar at stop),
+      record {
+        front = map placed stop.front;
+        item = placed stop.item;
+        rest = map placed stop.rest;
+        stands = stands items text lex places TooFar at stop;
+        bracket = deep.bracket;
+        goes = subst (λ (x : Lexemes). GoesOn (x ++ lexeme stop.item ∷ [])) (sym same) deep.goes;
+        within = subst (λ (x : Lexemes). greatest_depth 0 x ≤ 64) (sym same) (front_depth 64 (map lexeme stop.front) stop.taken.0 stop.taken.1 good stop.taken.2);
+        beyond = subst (λ (x : Lexemes). depth_at_end 0 x ≡ 64) (sym same) deep.depth;
+      })
+
+missing_at : (items : Lexemes) (text : Bytes) → Lex items text → (at : ℕ) → at ≡ length text → EndsIn items → Refuses (fault.Syntax at) text
+missing_at items text lex at place ends =
+    let good = lex_good items text lex in
+    let none = never items text lex
+        (λ far. let no : ◌≡◌ {A = Reading} (Read ends.taken.0 ends.taken.1) TooFar = sym ends.taken.2 ∙ far in absurd (cc)) ends.missing in
+    ((items, lex), none, inr (record {
+      items = items;
+      lex = lex;
+      place = place;
+      goes = taken_goes 64 (omega arith) items ends.taken.0 ends.taken.1 good ends.taken.2;
+      stops = none;
+      within = front_depth 64 items ends.taken.0 ends.taken.1 good ends.taken.2;
+    }))
+
+pub tree_of : (items : List Item) (text : Bytes) → Lex (map lexeme items) text → LexAt (length text) (map placed items) text
+    → (result : Result Interface IdlFault) → Reads result items (length text) → TreeOf result text
+tree_of items text lex places (Ok tree) e = let is = read_tree 64 (map lexeme items) text tree lex e in ((is.form, (map lexeme items, lex, is.settled)), is.within)
+tree_of items text lex places (Err (fault.Token token)) e = absurd e
+tree_of items text lex places (Err (fault.Syntax at)) (inl stop) = stray_at items text lex places at stop
+tree_of items text lex places (Err (fault.Syntax at)) (inr ends) = missing_at (map lexeme items) text lex at ends.0 ends.1
+tree_of items text lex places (Err (fault.TooDeep at)) e = deep_at items text lex places at e
+tree_of items text lex places (Err (fault.Name name)) e = absurd e
+tree_of items text lex places (Err fault.Memory) e = tt
 
 pub named : (text : Bytes) (tree : Interface) (result : Result Interface IdlFault) → Spells tree text → Deep tree ≤ 64 → Checks result tree → Answers result text
 named text tree (Ok checked) spells within (same, good) = subst (λ (t : Interface). Accepts text t) (sym same) (spells, within, good)

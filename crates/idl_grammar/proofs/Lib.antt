@@ -1,3 +1,4 @@
 pub mod Answering
+pub mod ItemLoop
 pub mod NoteTexts
 pub mod Trimming

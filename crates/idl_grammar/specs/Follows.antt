@@ -1,5 +1,5 @@
 -- what a step of the reader answers, against what the item does
-use Rattle.std.specs.Prelude.{◌≡◌, ◌≤◌, true, Result, Ok, Err, Option, Some, None, IsUtf8}
+use Rattle.std.specs.Prelude.{◌≡◌, ◌⊎◌, ℕ, ◌≤◌, true, List, [], ◌∷◌, ◌++◌, map, Result, Ok, Err, Option, Some, None, IsUtf8}
 use Rattle.idl_token.specs.Lex.{Bytes, Lexemes, lexeme}
 use Rattle.idl_token.specs.declared.tokens.Item.{Item}
 use Rattle.idl_tree.specs.declared.trees.Interface.{Interface}
@@ -16,6 +16,7 @@ use Rattle.idl_grammar.specs.declared.reader.Progress.{Progress}
 use Rattle.idl_grammar.specs.declared.faults.IdlFault.{IdlFault}
 use Rattle.idl_grammar.specs.declared.faults.IdlFault.TheVariants as fault
 use Rattle.idl_rules.specs.declared.states.State.{State}
+use Rattle.idl_rules.specs.declared.states.State.TheVariants.{Start}
 use Rattle.idl_grammar.specs.declared.faults.Stop.{Stop}
 use Rattle.idl_grammar.specs.declared.faults.Stop.TheVariants as stop
 
@@ -40,20 +41,39 @@ Continues (Err stop.Stray) reading items = reading ≡ Strayed
 Continues (Err stop.Beyond) reading items = reading ≡ TooFar
 Continues (Err stop.Memory) reading items = Unit {0}
 
--- a reading that is not that of a whole definition, and not too deep
-abbrev pub Fails : Reading → Type 0
-Fails (Read state waiting) = (tree : Interface) → Read state waiting ≡ whole tree → ⊥
-Fails Strayed = Unit {0}
-Fails TooFar = ⊥
+-- the items in front were taken
+abbrev pub Takes : Lexemes → Type 0
+Takes front = (state : State) × (waiting : List Bytes) × (run 64 Start [] front ≡ Read state waiting)
 
--- what the reader of a tree answers, against the reading of its items
-abbrev pub Reads : Result Interface IdlFault → Reading → Type 0
-Reads (Ok tree) reading = reading ≡ whole tree
-Reads (Err (fault.Token token)) reading = ⊥
-Reads (Err (fault.Syntax at)) reading = Fails reading
-Reads (Err (fault.TooDeep at)) reading = reading ≡ TooFar
-Reads (Err (fault.Name name)) reading = ⊥
-Reads (Err fault.Memory) reading = Unit {0}
+-- the reading stops with the item at that place
+pub record StopsAt (reading : Reading) (items : List Item) (at : ℕ) : Type 0 where
+  pub front : List Item
+  pub item : Item
+  pub rest : List Item
+  pub whole : items ≡ front ++ item ∷ rest
+  pub place : item.at ≡ at
+  pub taken : Takes (map lexeme front)
+  pub stopped : run 64 Start [] (map lexeme front ++ lexeme item ∷ []) ≡ reading
+
+-- all items were taken, and something is missing
+pub record EndsIn (items : Lexemes) : Type 0 where
+  pub taken : Takes items
+  pub missing : (tree : Interface) → run 64 Start [] items ≡ whole tree → ⊥
+
+-- what the end of the items leaves
+abbrev pub Ends : Result Interface IdlFault → State → List Bytes → ℕ → Type 0
+Ends (Ok tree) state waiting end = Read state waiting ≡ whole tree
+Ends (Err (fault.Syntax at)) state waiting end = (at ≡ end) × ((tree : Interface) → Read state waiting ≡ whole tree → ⊥)
+Ends (Err found) state waiting end = ⊥
+
+-- what the reader of a tree answers, against the reading of its items, where the text ends at `end`
+abbrev pub Reads : Result Interface IdlFault → List Item → ℕ → Type 0
+Reads (Ok tree) items end = run 64 Start [] (map lexeme items) ≡ whole tree
+Reads (Err (fault.Token token)) items end = ⊥
+Reads (Err (fault.Syntax at)) items end = StopsAt Strayed items at ⊎ ((at ≡ end) × EndsIn (map lexeme items))
+Reads (Err (fault.TooDeep at)) items end = StopsAt TooFar items at
+Reads (Err (fault.Name name)) items end = ⊥
+Reads (Err fault.Memory) items end = Unit {0}
 
 -- the item is UTF-8, and so is its text where it is a note
 abbrev pub IsReadable : Item → Type 0

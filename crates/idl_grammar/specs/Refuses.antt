@@ -1,20 +1,65 @@
 -- why a text is refused, and what is read of one that is accepted
-use Rattle.std.specs.Prelude.{◌≡◌, ◌<◌, ◌≤◌, Result, Ok, Err, Some, IsUtf8}
+use Rattle.std.specs.Prelude.{◌≡◌, ◌⊎◌, ℕ, ◌<◌, ◌≤◌, List, [], ◌∷◌, ◌++◌, map, length, Result, Ok, Err, Some, IsUtf8}
 use Rattle.std.specs.Str.Lossy.{utf8_valid_len}
-use Rattle.idl_token.specs.Lex.{Bytes, Lexemes, Lex, BadByteAt}
+use Rattle.idl_token.specs.Lex.{Bytes, Lexeme, Lexemes, Placed, Lex, LexAt, BadByteAt}
+use Rattle.idl_rules.specs.Items.{left_bracket}
 use Rattle.idl_token.specs.declared.tokens.TokenFault.TheVariants as token
 use Rattle.idl_tree.specs.Form.{Deep}
 use Rattle.idl_tree.specs.Faults.{first_fault}
 use Rattle.idl_tree.specs.declared.trees.Interface.{Interface}
 use Rattle.idl_tree.specs.declared.faults.NameFault.{NameFault}
 use Rattle.idl_tree.specs.declared.faults.NameFault.TheVariants as name
-use Rattle.idl_rules.specs.Spells.{Spells, Accepts}
+use Rattle.idl_rules.specs.Spells.{Spells, Accepts, GoesOn, greatest_depth, depth_at_end}
 use Rattle.idl_grammar.specs.declared.faults.IdlFault.{IdlFault}
 use Rattle.idl_grammar.specs.declared.faults.IdlFault.TheVariants as fault
 
 -- the text is cut into items
 abbrev pub HasLex : Bytes → Type 0
 HasLex text = (items : Lexemes) × Lex items text
+
+-- an item without its place
+abbrev pub unplaced : Placed → Lexeme
+unplaced item = (item.0, item.2)
+
+abbrev pub bare : List Placed → Lexemes
+bare items = map unplaced items
+
+-- the text's items are those in front, one at that place, and the rest
+pub record Stands (text : Bytes) (front : List Placed) (item : Placed) (rest : List Placed) (at : ℕ) : Type 0 where
+  pub items : LexAt (length text) (front ++ item ∷ rest) text
+  pub place : item.1 ≡ at
+
+-- the item at the place is the first with which no definition goes on, brackets of any depth counted
+-- as lawful, and no bracket before it is too deep
+pub record StrayAt (text : Bytes) (at : ℕ) : Type 0 where
+  pub front : List Placed
+  pub item : Placed
+  pub rest : List Placed
+  pub stands : Stands text front item rest at
+  pub goes : GoesOn (bare front)
+  pub stops : GoesOn (bare front ++ unplaced item ∷ []) → ⊥
+  pub within : greatest_depth 0 (bare front) ≤ 64
+
+-- at the end of the text something is missing, and no bracket is too deep
+pub record MissingAt (text : Bytes) (at : ℕ) : Type 0 where
+  pub items : Lexemes
+  pub lex : Lex items text
+  pub place : at ≡ length text
+  pub goes : GoesOn items
+  pub stops : (tree : Interface) → Spells tree text → ⊥
+  pub within : greatest_depth 0 items ≤ 64
+
+-- the item at the place is the first `(` with which more than 64 are open, and definitions go on with
+-- it, brackets of any depth counted as lawful
+pub record DeepAt (text : Bytes) (at : ℕ) : Type 0 where
+  pub front : List Placed
+  pub item : Placed
+  pub rest : List Placed
+  pub stands : Stands text front item rest at
+  pub bracket : unplaced item ≡ left_bracket
+  pub goes : GoesOn (bare front ++ unplaced item ∷ [])
+  pub within : greatest_depth 0 (bare front) ≤ 64
+  pub beyond : depth_at_end 0 (bare front) ≡ 64
 
 -- the text spells a tree with at most 64 brackets open, and that is the first fault of its names
 abbrev pub Misnames : NameFault → Bytes → Type 0
@@ -29,8 +74,8 @@ abbrev pub Refuses : IdlFault → Bytes → Type 0
 Refuses (fault.Token (token.NotUtf8 at)) text = (IsUtf8 text → ⊥) × (at ≡ utf8_valid_len text)
 Refuses (fault.Token (token.BadByte at)) text = IsUtf8 text × BadByteAt at text × ((items : Lexemes) → Lex items text → ⊥)
 Refuses (fault.Token token.Memory) text = ⊥
-Refuses (fault.Syntax at) text = HasLex text × ((tree : Interface) → Spells tree text → ⊥)
-Refuses (fault.TooDeep at) text = HasLex text × ((tree : Interface) → Spells tree text → 64 < Deep tree)
+Refuses (fault.Syntax at) text = HasLex text × ((tree : Interface) → Spells tree text → ⊥) × (StrayAt text at ⊎ MissingAt text at)
+Refuses (fault.TooDeep at) text = HasLex text × ((tree : Interface) → Spells tree text → 64 < Deep tree) × DeepAt text at
 Refuses (fault.Name found) text = RefusesNames found text
 Refuses fault.Memory text = Unit {0}
 

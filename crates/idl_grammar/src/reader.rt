@@ -3,9 +3,9 @@ ghost use Rattle.idl_token.specs.Lex.{Lexemes, lexeme};
 ghost use Rattle.idl_tree.specs.declared.trees.Interface.{Interface};
 ghost use Rattle.idl_rules.specs.Settle.{note_text};
 ghost use Rattle.idl_rules.specs.Spells.{Accepts};
-ghost use Rattle.idl_rules.specs.Reading.{run, Read};
+ghost use Rattle.idl_rules.specs.Reading.{run};
 ghost use Rattle.idl_rules.specs.declared.states.State.TheVariants.{Start};
-ghost use Rattle.idl_grammar.specs.Follows.{Continues, Reads, IsReadable};
+ghost use Rattle.idl_grammar.specs.Follows.{Continues, Reads, Ends, IsReadable};
 ghost use Rattle.idl_grammar.specs.Refuses.{Answers, Gives};
 ghost use Rattle.idl_grammar.specs.Follows.{TreeOf, Checks, of_token, of_name};
 ghost use Rattle.idl_tree.specs.Form.{Form, Deep};
@@ -84,7 +84,7 @@ fn name_fault(fault: NameFault) -> IdlFault
 // Reads the tree of the items of a text of length `end`.
 fn read_items(alloc: Global, items: &[Item<'_>], end: u64) -> Result<Interface, IdlFault>
     requires { All IsReadable items.now }
-    ensures { Reads result (run 64 Start [] (map lexeme items.now)) }
+    ensures { Reads result items.now end }
 {
     let mut progress = Progress {
         state: State::Start,
@@ -103,7 +103,7 @@ fn read_items(alloc: Global, items: &[Item<'_>], end: u64) -> Result<Interface, 
 
 // The tree, where a definition is whole.
 fn finished(progress: Progress, end: u64) -> Result<Interface, IdlFault>
-    ensures { Reads result (Read progress.state progress.waiting) }
+    ensures { Ends result progress.state progress.waiting end }
 {
     let Progress { state, waiting } = progress;
     match state {

@@ -11,3 +11,5 @@ pub mod Texts
 pub mod Views
 pub mod Completes
 pub mod LastPrefix
+pub mod Fronts
+pub mod Stops

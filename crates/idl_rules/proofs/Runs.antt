@@ -19,7 +19,7 @@ OnReading P (Read state waiting) = P state waiting
 OnReading P Strayed = Unit {0}
 OnReading P TooFar = Unit {0}
 
-notes_push : (waiting : List Bytes) (text : Bytes) → are_notes waiting ≡ true → is_note text ≡ true → are_notes (waiting ++ text ∷ []) ≡ true
+pub notes_push : (waiting : List Bytes) (text : Bytes) → are_notes waiting ≡ true → is_note text ≡ true → are_notes (waiting ++ text ∷ []) ≡ true
 notes_push waiting text h k = list_all-append is_note waiting (text ∷ []) ∙ and_from (are_notes waiting) (is_note text && true) h (and_from (is_note text) true k refl)
 
 -- what is read is sound, and its items with the notes that wait are the items so far, settled
@@ -27,7 +27,7 @@ abbrev pub Whole : ℕ → State → List Bytes → Lexemes → State → List B
 Whole limit state waiting items last left =
     Sound limit last × (are_notes left ≡ true) × (spelled state ++ settled (here state) waiting items ≡ spelled last ++ notes_items left)
 
-map_reading : (P Q : State → List Bytes → Type 0) (reading : Reading) → ((last : State) (left : List Bytes) → P last left → Q last left) → OnReading P reading → OnReading Q reading
+pub map_reading : (P Q : State → List Bytes → Type 0) (reading : Reading) → ((last : State) (left : List Bytes) → P last left → Q last left) → OnReading P reading → OnReading Q reading
 map_reading P Q (Read last left) f h = f last left h
 map_reading P Q Strayed f h = tt
 map_reading P Q TooFar f h = tt

@@ -26,7 +26,7 @@ use Rattle.idl_rules.proofs.Texts.{begun_good}
 use Rattle.idl_rules.proofs.Trees.{reads}
 
 -- with more room nothing changes but what was too deep
-abbrev Larger : Next → Next → Type 0
+abbrev pub Larger : Next → Next → Type 0
 Larger small large = (small ≡ Beyond) ⊎ (small ≡ large)
 
 opened_larger : (small large : ℕ) (head : Head) (member : Begun) (levels : List Level) → small ≤ large → Larger (opened small head member levels) (opened large head member levels)
@@ -51,12 +51,12 @@ mark_larger : (small large : ℕ) (state : State) (sign : Option Sign) → small
 mark_larger small large state None h = inr refl
 mark_larger small large state (Some sign) h = sign_larger small large state sign h
 
-plain_larger : (small large : ℕ) (state : State) (item : Lexeme) → small ≤ large → Larger (plain_next small state item) (plain_next large state item)
+pub plain_larger : (small large : ℕ) (state : State) (item : Lexeme) → small ≤ large → Larger (plain_next small state item) (plain_next large state item)
 plain_larger small large state (Word, w) h = inr refl
 plain_larger small large state (Mark, spelling) h = mark_larger small large state (mark_of spelling) h
 plain_larger small large state (Note, spelling) h = inr refl
 
-abbrev LargerRun : Reading → Reading → Type 0
+abbrev pub LargerRun : Reading → Reading → Type 0
 LargerRun small large = (small ≡ TooFar) ⊎ (small ≡ large)
 
 module _ (small large : ℕ) (h : small ≤ large) (items : Lexemes) where
@@ -121,7 +121,7 @@ pub record IsRead (limit : ℕ) (items : Lexemes) (tree : Interface) : Type 0 wh
   pub within : Deep tree ≤ limit
   pub settled : Settle items ≡ Items tree
 
-tree_of : (limit : ℕ) (items : Lexemes) (tree : Interface) → OnReading (Whole limit Start [] items) (whole tree) → IsRead limit items tree
+pub tree_of : (limit : ℕ) (items : Lexemes) (tree : Interface) → OnReading (Whole limit Start [] items) (whole tree) → IsRead limit items tree
 tree_of limit items tree (sound, noted, settles) = record {
   form = and_from (are_notes tree.notes && is_interface_name tree.name && list_all member_form tree.members) (are_notes tree.tail)
       (and_from (are_notes tree.notes && is_interface_name tree.name) (list_all member_form tree.members)

@@ -1,0 +1,15 @@
+pub mod Depths
+pub mod Distinct
+pub mod EntriesBack
+pub mod EqualItems
+pub mod FieldsBack
+pub mod GoodBodies
+pub mod Opened
+pub mod Orders
+pub mod Readers
+pub mod ReadsFit
+pub mod ReadBack
+pub mod Rests
+pub mod StructBack
+pub mod Whole
+pub mod WholeOfType

@@ -1,0 +1,9 @@
+pub mod Bodies
+pub mod Gives
+pub mod Ints
+pub mod Laws
+pub mod OfType
+pub mod Parts
+pub mod Reads
+pub mod Shows
+pub mod Sizes

@@ -1,0 +1,34 @@
+//! JSON values (RFC 8259) read by a type of an interface definition, and shown again (varlink.org,
+//! "Interface Definition").
+#![tactic(auto)]
+
+mod bodies;
+mod copies;
+mod equal_trees;
+mod equality;
+mod faults;
+mod laws;
+mod prefixes;
+mod reading;
+mod showing;
+mod sizes;
+mod structs;
+mod trees;
+mod vals;
+mod weights;
+
+pub use copies::copy;
+pub use equality::same;
+pub use faults::{FieldFault, ValueFault};
+pub use laws::{
+    shown_fields_read_back_alone, shown_values_read_back_alone, values_of_types_are_whole,
+};
+pub use reading::read;
+pub use showing::{show, show_fields};
+pub use sizes::levels;
+pub use structs::read_fields;
+pub use vals::Val;
+pub use weights::weight;
+
+#[cfg(test)]
+mod tests;
