@@ -1,5 +1,5 @@
 -- what the reading of a text's items tells of the text
-use Rattle.std.proofs.Common.{◌≡◌, ℕ, ◌<◌, ◌≤◌, true, List, [], ◌∷◌, ◌++◌, map, length, append_assoc, ◌⊎◌, Option, None, Result, Ok, Err, Some, refl, sym, ap, subst, ◌∙◌, arith, inl, inr}
+use Rattle.std.proofs.Common.{◌≡◌, ℕ, ◌<◌, ◌≤◌, true, List, [], ◌∷◌, ◌++◌, map, length, append_assoc, Option, None, Result, Ok, Err, Some, refl, sym, ap, subst, ◌∙◌, arith, inl, inr}
 use Rattle.std.proofs.lemmas.Bool.{cases_lt}
 use Rattle.std.specs.Str.{IsUtf8}
 use Rattle.std.specs.Str.Lossy.{utf8_valid_len}
@@ -12,7 +12,7 @@ use Rattle.idl_tree.specs.Faults.{first_fault, Reports}
 use Rattle.idl_rules.specs.Spells.{Spells, Accepts}
 use Rattle.idl_rules.specs.Reading.{Reading, Read, Strayed, TooFar, run, whole}
 use Rattle.idl_rules.specs.declared.states.State.TheVariants.{Start}
-use Rattle.idl_rules.proofs.Uniqueness.{spelled_read, spelled_reading, read_tree, whole_one, one_tree}
+use Rattle.idl_rules.proofs.Uniqueness.{spelled_read, spelled_reading, read_tree, one_tree}
 use Rattle.idl_token.specs.declared.tokens.TokenFault.TheVariants as token
 use Rattle.idl_tree.specs.declared.faults.NameFault.{NameFault}
 use Rattle.idl_tree.specs.declared.faults.NameFault.TheVariants as name
@@ -26,20 +26,14 @@ use Rattle.idl_rules.proofs.Stops.{stray_stops, taken_goes, deep_stop, front_dep
 use Rattle.idl_rules.proofs.Uniqueness.{lex_good}
 use Rattle.idl_rules.specs.Spells.{GoesOn, greatest_depth, depth_at_end}
 use Rattle.idl_rules.specs.Reading.{note_good, notes_good}
-use Rattle.idl_grammar.specs.Follows.{Takes, StopsAt, EndsIn, Reads, TreeOf, Checks, of_name, of_token}
-use Rattle.idl_grammar.specs.Refuses.{Answers, Refuses, Gives, Misnames, unplaced, bare, Stands}
-
-pub spelled_by : (items : Lexemes) (text : Bytes) (tree : Interface) → Lex items text → run 64 Start [] items ≡ whole tree → Spells tree text
-spelled_by items text tree lex e = let is = read_tree 64 items text tree lex e in (is.form, (items, lex, is.settled))
-
-pub one_read : (items : Lexemes) (text : Bytes) (tree other : Interface) → Lex items text → run 64 Start [] items ≡ whole tree → Spells other text → Deep other ≤ 64 → tree ≡ other
-one_read items text tree other lex e spells within = whole_one tree other (sym e ∙ spelled_read 64 items text other lex spells within)
+use Rattle.idl_grammar.specs.Follows.{StopsAt, EndsIn, Reads, TreeOf, Checks, of_name, of_token}
+use Rattle.idl_grammar.specs.Refuses.{Answers, Refuses, Gives, Misnames, bare, Stands}
 
 -- a reading that is neither of a tree nor too deep is that of no tree
 never : (items : Lexemes) (text : Bytes) → Lex items text → (run 64 Start [] items ≡ TooFar → ⊥) → ((tree : Interface) → run 64 Start [] items ≡ whole tree → ⊥)
     → (tree : Interface) → Spells tree text → ⊥
 never items text lex near other tree spells =
-    elim (spelled_reading 64 items text tree lex spells) [ | inl far ↦ near far | inr same ↦ other tree same ]
+    elim (spelled_reading 64 items text tree lex spells) [ inl far ↦ near far | inr same ↦ other tree same ]
 
 pub too_deep : (items : Lexemes) (text : Bytes) → Lex items text → run 64 Start [] items ≡ TooFar → (tree : Interface) → Spells tree text → 64 < Deep tree
 too_deep items text lex e tree spells =
@@ -81,11 +75,11 @@ stray_at items text lex places at stop =
     let run_is : run 64 Start [] (map lexeme items) ≡ Strayed = cut_run items text lex places Strayed at stop in
     let both = both_good items text lex places Strayed at stop in
     let good = front_good items text lex places Strayed at stop in
-    let same = bare_placed stop.front in
-    ((map lexeme items, lex),
+    let same = bare_placed stop.front in (
+      (map lexeme items, lex),
       never (map lexeme items) text lex
-        (λ far. let no : ◌≡◌ {A = Reading} Strayed TooFar = sym run_is ∙ far in absurd (cc))
-        (λ tree is. let no : ◌≡◌ {A = Reading} Strayed (whole tree) = sym run_is ∙ is in absurd (cc)),
+          (λ far. let no : ◌≡◌ {A = Reading} Strayed TooFar = sym run_is ∙ far in absurd (cc))
+          (λ tree is. let no : ◌≡◌ {A = Reading} Strayed (whole tree) = sym run_is ∙ is in absurd (cc)),
       inl (record {
         front = map placed stop.front;
         item = placed stop.item;
@@ -94,15 +88,16 @@ stray_at items text lex places at stop =
         goes = subst GoesOn (sym same) (taken_goes 64 (omega arith) (map lexeme stop.front) stop.taken.0 stop.taken.1 good stop.taken.2);
         stops = λ goes. stray_stops 64 (map lexeme stop.front ++ lexeme stop.item ∷ []) both stop.stopped (subst (λ (x : Lexemes). GoesOn (x ++ lexeme stop.item ∷ [])) same goes);
         within = subst (λ (x : Lexemes). greatest_depth 0 x ≤ 64) (sym same) (front_depth 64 (map lexeme stop.front) stop.taken.0 stop.taken.1 good stop.taken.2);
-      }))
+      }),
+    )
 
 deep_at : (items : List Item) (text : Bytes) → Lex (map lexeme items) text → LexAt (length text) (map placed items) text → (at : ℕ) → StopsAt TooFar items at → Refuses (fault.TooDeep at) text
 deep_at items text lex places at stop =
     let both = both_good items text lex places TooFar at stop in
     let good = front_good items text lex places TooFar at stop in
     let same = bare_placed stop.front in
-    let deep = deep_stop 64 (map lexeme stop.front) (lexeme stop.item) stop.taken.0 stop.taken.1 both good stop.taken.2 stop.stopped in
-    ((map lexeme items, lex),
+    let deep = deep_stop 64 (map lexeme stop.front) (lexeme stop.item) stop.taken.0 stop.taken.1 both good stop.taken.2 stop.stopped in (
+      (map lexeme items, lex),
       too_deep (map lexeme items) text lex (cut_run items text lex places TooFar at stop),
       record {
         front = map placed stop.front;
@@ -113,21 +108,25 @@ deep_at items text lex places at stop =
         goes = subst (λ (x : Lexemes). GoesOn (x ++ lexeme stop.item ∷ [])) (sym same) deep.goes;
         within = subst (λ (x : Lexemes). greatest_depth 0 x ≤ 64) (sym same) (front_depth 64 (map lexeme stop.front) stop.taken.0 stop.taken.1 good stop.taken.2);
         beyond = subst (λ (x : Lexemes). depth_at_end 0 x ≡ 64) (sym same) deep.depth;
-      })
+      },
+    )
 
 missing_at : (items : Lexemes) (text : Bytes) → Lex items text → (at : ℕ) → at ≡ length text → EndsIn items → Refuses (fault.Syntax at) text
 missing_at items text lex at place ends =
     let good = lex_good items text lex in
     let none = never items text lex
-        (λ far. let no : ◌≡◌ {A = Reading} (Read ends.taken.0 ends.taken.1) TooFar = sym ends.taken.2 ∙ far in absurd (cc)) ends.missing in
-    ((items, lex), none, inr (record {
-      items = items;
-      lex = lex;
-      place = place;
-      goes = taken_goes 64 (omega arith) items ends.taken.0 ends.taken.1 good ends.taken.2;
-      stops = none;
-      within = front_depth 64 items ends.taken.0 ends.taken.1 good ends.taken.2;
-    }))
+    (λ far. let no : ◌≡◌ {A = Reading} (Read ends.taken.0 ends.taken.1) TooFar = sym ends.taken.2 ∙ far in absurd (cc)) ends.missing in (
+      (items, lex),
+      none,
+      inr (record {
+        items = items;
+        lex = lex;
+        place = place;
+        goes = taken_goes 64 (omega arith) items ends.taken.0 ends.taken.1 good ends.taken.2;
+        stops = none;
+        within = front_depth 64 items ends.taken.0 ends.taken.1 good ends.taken.2;
+      }),
+    )
 
 pub tree_of : (items : List Item) (text : Bytes) → Lex (map lexeme items) text → LexAt (length text) (map placed items) text
     → (result : Result Interface IdlFault) → Reads result items (length text) → TreeOf result text

@@ -1,16 +1,16 @@
 -- the loop over the items
-use Rattle.std.proofs.Common.{◌≡◌, ℕ, ◌+◌, ◌<◌, ◌≤◌, List, [], ◌∷◌, ◌++◌, map, length, take, drop, take_all, get_or, Result, Ok, Err, refl, sym, ap, subst, ◌∙◌, append_assoc, arith, inl, inr, ◌⊎◌}
+use Rattle.std.proofs.Common.{◌≡◌, ℕ, ◌+◌, ◌<◌, ◌≤◌, List, [], ◌∷◌, ◌++◌, map, length, take, drop, take_all, get_or, Result, Ok, Err, refl, sym, ap, ◌∙◌, inr}
 use Rattle.std.proofs.lemmas.List.{take_more, drop_more, take-append-drop, map-append}
 use Rattle.idl_token.specs.Lex.{Bytes, Lexemes, lexeme}
 use Rattle.idl_token.specs.declared.tokens.Item.{Item}
 use Rattle.idl_tree.specs.declared.trees.Interface.{Interface}
-use Rattle.idl_rules.specs.Reading.{Reading, Read, run, whole}
+use Rattle.idl_rules.specs.Reading.{Reading, Read, run}
 use Rattle.idl_rules.specs.declared.states.State.{State}
 use Rattle.idl_rules.specs.declared.states.State.TheVariants.{Start}
 use Rattle.idl_rules.proofs.Fronts.{go_on, run_append}
 use Rattle.idl_grammar.specs.declared.faults.IdlFault.{IdlFault}
 use Rattle.idl_grammar.specs.declared.faults.IdlFault.TheVariants as fault
-use Rattle.idl_grammar.specs.Follows.{StopsAt, EndsIn, Reads, Ends}
+use Rattle.idl_grammar.specs.Follows.{StopsAt, Reads, Ends}
 
 module _ (items : List Item) (i : ℕ) (d : Item) (below : i < length items) (state : State) (waiting : List Bytes)
     (taken : run 64 Start [] (map lexeme (take i items)) ≡ Read state waiting) (reading : Reading) (next : run 64 state waiting (lexeme (get_or items i d) ∷ []) ≡ reading) where

@@ -29,7 +29,8 @@ pub struct Progress {
 /// Reads an interface definition, notes included.
 ///
 /// It is accepted exactly where the text spells a tree, its brackets are at most 64 deep, and its
-/// names are unique and defined; such a text is refused for want of memory alone.
+/// names are unique and defined; such a text is refused for want of memory alone. A refusal tells the
+/// offset of the first item with which no definition goes on, or of the first `(` that is too deep.
 pub fn read(alloc: Global, text: &[u8]) -> Result<Checked, IdlFault>
     ensures answer { Answers result text.now }
     ensures complete { (tree : Interface) → Accepts text.now tree → Gives result tree }

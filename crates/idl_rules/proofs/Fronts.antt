@@ -1,10 +1,7 @@
 -- readings of items and of more items behind them, and where they stop
-use Rattle.std.proofs.Common.{◌≡◌, ℕ, zero, suc, ◌+◌, ◌<◌, ◌≤◌, max, Bool, true, false, ◌&&◌, ◌||◌, not, cond, ltb, List, [], ◌∷◌, ◌++◌, Option, Some, None, map, length, codes, refl, sym, ap, subst, ◌∙◌, append_assoc, arith, inl, inr, ◌⊎◌}
+use Rattle.std.proofs.Common.{◌≡◌, ℕ, ◌<◌, Bool, true, cond, List, [], ◌∷◌, ◌++◌, codes, refl, ap, ◌∙◌}
 use Rattle.std.specs.List.{list_all}
-use Rattle.std.specs.Str.{bytes_eq}
-use Rattle.std.proofs.lemmas.List.{append-nil}
-use Rattle.std.proofs.lemmas.List.Folds.{list_all-append}
-use Rattle.std.proofs.lemmas.Bool.{and_parts, and_from, lt-ltb, ltb-false, cond-true, cond-false}
+use Rattle.std.proofs.lemmas.Bool.{and_from, lt-ltb}
 use Rattle.idl_token.specs.Lex.{Bytes, Lexeme, Lexemes}
 use Rattle.idl_token.specs.declared.tokens.ItemKind.TheVariants.{Word, Mark, Note}
 use Rattle.idl_tree.specs.declared.trees.Interface.{Interface}
@@ -13,11 +10,10 @@ use Rattle.idl_tree.specs.declared.trees.Named.{Named}
 use Rattle.idl_tree.specs.declared.trees.Body.{Body}
 use Rattle.idl_tree.specs.declared.trees.Body.TheVariants.{Struct, Enum, Int}
 use Rattle.idl_tree.specs.declared.trees.Prefix.TheVariants.{Array, Map}
-use Rattle.idl_tree.specs.Form.{Form, Deep, are_notes}
-use Rattle.idl_rules.specs.Items.{Items, word, left_bracket, right_bracket, colon, right_square, arrow}
-use Rattle.idl_rules.specs.Settle.{Settle, settled, is_slot, after}
-use Rattle.idl_rules.specs.Spells.{GoesOn, is_bare, depth_behind, depth_at_end, greatest_depth}
-use Rattle.idl_rules.specs.Reading.{Next, Going, Stray, Beyond, Reading, Read, Strayed, TooFar, run, whole, then_read, slot_next, plain_next, opened, closed, finished, with_core, with_prefix, here, note_good, notes_good}
+use Rattle.idl_rules.specs.Items.{word, left_bracket, right_bracket, colon, right_square, arrow}
+use Rattle.idl_rules.specs.Settle.{is_slot}
+use Rattle.idl_rules.specs.Spells.{is_bare}
+use Rattle.idl_rules.specs.Reading.{Next, Going, Stray, Beyond, Reading, Read, Strayed, TooFar, run, whole, then_read, slot_next, plain_next, closed, finished, with_core, with_prefix, here}
 use Rattle.idl_rules.specs.declared.states.State.{State}
 use Rattle.idl_rules.specs.declared.states.State.TheVariants.{Start, Headed, Between, Keyed, Ready, Middle, Inside}
 use Rattle.idl_rules.specs.declared.states.Head.{Head}
@@ -28,10 +24,7 @@ use Rattle.idl_rules.specs.declared.states.Kind.TheVariants.{Shape, Input, Outpu
 use Rattle.idl_rules.specs.declared.states.Keyword.TheVariants.{Types, Methods, Errors}
 use Rattle.idl_rules.specs.declared.states.Spot.{Spot}
 use Rattle.idl_rules.specs.declared.states.Spot.TheVariants as spot
-use Rattle.idl_rules.proofs.Spelled.{Sound, OnNext}
-use Rattle.idl_rules.proofs.Runs.{by_bool, run_settled, OnReading, Whole, run_whole}
-use Rattle.idl_rules.proofs.Trees.{reads}
-use Rattle.idl_rules.proofs.Uniqueness.{run_larger, LargerRun}
+use Rattle.idl_rules.proofs.Runs.{by_bool}
 
 -- more items behind a reading
 abbrev pub go_on : ℕ → Reading → Lexemes → Reading
@@ -50,10 +43,10 @@ module _ (limit : ℕ) (front items : Lexemes) where
   item_append : (state : State) (waiting : List Bytes) (item : Lexeme)
       → ((s : State) (w : List Bytes) → run limit s w (front ++ items) ≡ go_on limit (run limit s w front) items)
       → cond (is_slot (here state) item) (then_read (slot_next state waiting item) (λ s. run limit s [] (front ++ items))) (then_read (plain_next limit state item) (λ s. run limit s waiting (front ++ items)))
-        ≡ go_on limit (cond (is_slot (here state) item) (then_read (slot_next state waiting item) (λ s. run limit s [] front)) (then_read (plain_next limit state item) (λ s. run limit s waiting front))) items
+      ≡ go_on limit (cond (is_slot (here state) item) (then_read (slot_next state waiting item) (λ s. run limit s [] front)) (then_read (plain_next limit state item) (λ s. run limit s waiting front))) items
   item_append state waiting item ih =
       by_bool (λ (b : Bool). cond b (then_read (slot_next state waiting item) (λ s. run limit s [] (front ++ items))) (then_read (plain_next limit state item) (λ s. run limit s waiting (front ++ items)))
-        ≡ go_on limit (cond b (then_read (slot_next state waiting item) (λ s. run limit s [] front)) (then_read (plain_next limit state item) (λ s. run limit s waiting front))) items)
+      ≡ go_on limit (cond b (then_read (slot_next state waiting item) (λ s. run limit s [] front)) (then_read (plain_next limit state item) (λ s. run limit s waiting front))) items)
       (is_slot (here state) item) (λ e. then_append (slot_next state waiting item) [] ih) (λ e. then_append (plain_next limit state item) waiting ih)
 
 pub run_append : (limit : ℕ) (state : State) (waiting : List Bytes) (front items : Lexemes)
@@ -96,7 +89,7 @@ module _ (limit : ℕ) (some : 0 < limit) where
         → Completes limit (Ready head (record { notes = notes; name = name; kind = Output input })) waiting
     reply notes name input waiting =
         by_item limit _ _ waiting waiting left_bracket refl (opens head (record { notes = notes; name = name; kind = Output input }) waiting)
-          (by_item limit _ _ waiting [] right_bracket refl (λ items. refl) (between _ []))
+        (by_item limit _ _ waiting [] right_bracket refl (λ items. refl) (between _ []))
 
     middle : (notes : List Bytes) (name : Bytes) (input : Body) (waiting : List Bytes) → Completes limit (Middle head notes name input) waiting
     middle notes name input waiting =
@@ -116,7 +109,7 @@ module _ (limit : ℕ) (some : 0 < limit) where
     ready : (member : Begun) (waiting : List Bytes) → Completes limit (Ready head member) waiting
     ready member waiting =
         by_item limit _ _ waiting waiting left_bracket refl (opens head member waiting)
-          (by_item limit _ _ waiting [] right_bracket refl (λ items. refl) (closes member [] (Struct [] waiting)))
+        (by_item limit _ _ waiting [] right_bracket refl (λ items. refl) (closes member [] (Struct [] waiting)))
 
     module _ (member : Begun) (levels : List Level) (waiting : List Bytes) where
       of_fields : (fields : List Field) → Completes limit (Inside head member levels (spot.Fields fields)) waiting
@@ -135,14 +128,14 @@ module _ (limit : ℕ) (some : 0 < limit) where
     inside member levels spot.First waiting = by_item limit _ _ waiting [] right_bracket refl (λ items. refl) (closes member levels (Struct [] waiting))
     inside member levels (spot.Only named) waiting =
         by_item limit _ _ waiting waiting colon refl (λ items. refl)
-          (of_prefixes member levels waiting (record { fields = []; notes = named.notes; name = named.name; prefixes = [] }))
+        (of_prefixes member levels waiting (record { fields = []; notes = named.notes; name = named.name; prefixes = [] }))
     inside member levels (spot.Names names) waiting = of_names member levels waiting names
     inside member levels (spot.MoreNames names) waiting =
         by_item limit _ _ waiting [] (word (codes "a")) refl (λ items. refl) (of_names member levels [] (names ++ record { notes = waiting; name = codes "a" } ∷ []))
     inside member levels (spot.Fields fields) waiting = of_fields member levels waiting fields
     inside member levels (spot.MoreFields fields) waiting =
         by_item limit _ _ waiting [] (word (codes "a")) refl (λ items. refl)
-          (of_field member levels [] (record { fields = fields; notes = waiting; name = codes "a"; prefixes = [] }))
+        (of_field member levels [] (record { fields = fields; notes = waiting; name = codes "a"; prefixes = [] }))
     inside member levels (spot.Field level) waiting = of_field member levels waiting level
     inside member levels (spot.Prefixes level) waiting = of_prefixes member levels waiting level
     inside member levels (spot.Square level) waiting =

@@ -1,17 +1,16 @@
 -- where a reading stops: with an item with which no definition goes on, or with a bracket too deep
-use Rattle.std.proofs.Common.{◌≡◌, ℕ, zero, suc, ◌<◌, ◌≤◌, max, Bool, true, false, ◌&&◌, cond, ltb, List, [], ◌∷◌, ◌++◌, Option, Some, None, length, codes, refl, sym, ap, subst, ◌∙◌, append_assoc, arith, inl, inr, ◌⊎◌}
+use Rattle.std.proofs.Common.{◌≡◌, ℕ, suc, ◌<◌, ◌≤◌, max, Bool, true, false, cond, ltb, List, [], ◌∷◌, ◌++◌, Option, Some, None, length, refl, sym, ap, subst, ◌∙◌, arith, inl, inr}
 use Rattle.std.specs.List.{list_all}
 use Rattle.std.proofs.lemmas.List.Folds.{list_all-append}
 use Rattle.std.proofs.lemmas.Bool.{and_parts, and_from, lt-ltb, ltb-false, true≢false}
 use Rattle.idl_token.specs.Lex.{Bytes, Lexeme, Lexemes}
 use Rattle.idl_token.specs.declared.tokens.ItemKind.TheVariants.{Word, Mark, Note}
-use Rattle.idl_tree.specs.declared.trees.Interface.{Interface}
 use Rattle.idl_tree.specs.declared.trees.Body.{Body}
-use Rattle.idl_tree.specs.Form.{Form, Deep, is_note, are_notes}
-use Rattle.idl_rules.specs.Items.{Items, left_bracket}
-use Rattle.idl_rules.specs.Settle.{Here, Settle, is_slot, after, note_text}
+use Rattle.idl_tree.specs.Form.{Deep, is_note, are_notes}
+use Rattle.idl_rules.specs.Items.{left_bracket}
+use Rattle.idl_rules.specs.Settle.{Here, is_slot, after, note_text}
 use Rattle.idl_rules.specs.Spells.{GoesOn, is_bare, depth_behind, depth_at_end, greatest_depth}
-use Rattle.idl_rules.specs.Reading.{Next, Going, Stray, Beyond, going_if, some_if, inside_next, close_next, entry_spot, body_of, type_word, keyed, keyword_of, Reading, Read, Strayed, TooFar, run, whole, then_read, slot_word, slot_close, slot_next, word_next, plain_next, sign_next, mark_next, mark_of, mark_spot, takes_enum, open_inner, opened, here, note_good, notes_good}
+use Rattle.idl_rules.specs.Reading.{Next, Going, Stray, Beyond, going_if, inside_next, close_next, entry_spot, body_of, type_word, keyed, keyword_of, Reading, Read, Strayed, TooFar, run, whole, then_read, slot_word, slot_close, slot_next, word_next, plain_next, sign_next, mark_next, mark_of, mark_spot, takes_enum, open_inner, opened, here, note_good, notes_good}
 use Rattle.idl_rules.specs.declared.states.State.{State}
 use Rattle.idl_rules.specs.declared.states.State.TheVariants.{Start, Headed, Between, Keyed, Ready, Middle, Inside}
 use Rattle.idl_rules.specs.declared.states.Head.{Head}
@@ -27,8 +26,8 @@ use Rattle.idl_rules.proofs.Spelled.{Sound, OnNext}
 use Rattle.idl_rules.proofs.Steps.{Kept, slot_kept, plain_kept}
 use Rattle.idl_rules.proofs.Runs.{by_bool, run_settled, OnReading, Whole, run_whole, notes_push, map_reading}
 use Rattle.idl_rules.proofs.Trees.{reads}
-use Rattle.idl_rules.proofs.Uniqueness.{run_larger, LargerRun, IsRead, tree_of}
-use Rattle.idl_rules.proofs.Fronts.{go_on, run_append, Completes, completes}
+use Rattle.idl_rules.proofs.Uniqueness.{run_larger, tree_of}
+use Rattle.idl_rules.proofs.Fronts.{go_on, run_append, completes}
 
 bare_good : (items : Lexemes) → list_all is_bare items ≡ true → notes_good items ≡ true
 bare_good [] h = refl
@@ -45,7 +44,7 @@ stray_stops limit items good strayed (rest, tree, bare, form, settles) =
     let large = max limit (Deep tree) in
     let all_good = good_append items rest good (bare_good rest bare) in
     let read : run large Start [] (items ++ rest) ≡ whole tree =
-        run_settled large Start [] (items ++ rest) tt refl all_good ∙ ap (λ (x : Lexemes). run large Start [] x) settles ∙ reads large tree form (omega arith) in
+    run_settled large Start [] (items ++ rest) tt refl all_good ∙ ap (λ (x : Lexemes). run large Start [] x) settles ∙ reads large tree form (omega arith) in
     elim (run_larger limit large (omega arith) Start [] items) [
       | inl far ↦ (let no : ◌≡◌ {A = Reading} Strayed TooFar = sym strayed ∙ far in absurd (cc))
       | inr same ↦ (let no : ◌≡◌ {A = Reading} Strayed (whole tree) =
@@ -60,7 +59,7 @@ taken_goes limit some items state waiting good taken =
     let all = items ++ c.rest in
     let read : run limit Start [] all ≡ whole c.tree = run_append limit Start [] items c.rest ∙ ap (λ (r : Reading). go_on limit r c.rest) taken ∙ c.read in
     let is = tree_of limit all c.tree (subst (λ (r : Reading). OnReading (Whole limit Start [] all) r) read
-        (run_whole limit Start [] all tt refl (good_append items c.rest good (bare_good c.rest c.bare)))) in
+    (run_whole limit Start [] all tt refl (good_append items c.rest good (bare_good c.rest c.bare)))) in
     (c.rest, c.tree, c.bare, is.form, is.settled)
 
 -- the brackets that are open
@@ -85,12 +84,12 @@ module _ (limit : ℕ) (items : Lexemes) where
       → OnReading (λ last left. DepthIs limit state (item ∷ items) last) (then_read next (λ s. run limit s waiting items))
   next_depth state waiting more item (Going next) sound same ih kept =
       map_reading (λ last left. DepthIs limit next items last) (λ last left. DepthIs limit state (item ∷ items) last) (run limit next waiting items)
-        (λ last left h.
-          let place : (here next).depth ≡ depth_behind (here state).depth item = ap (λ (p : Here). p.depth) kept.2 ∙ sym same in
-          let low = depth_sound limit state sound in
-          let behind : greatest_depth (depth_behind (here state).depth item) items ≤ limit = subst (λ (d : ℕ). greatest_depth d items ≤ limit) place h.1 in
-          (h.0, omega arith, subst (λ (d : ℕ). depth_at_end d items ≡ (here last).depth) place h.2))
-        (ih next kept.1)
+      (λ last left h.
+      let place : (here next).depth ≡ depth_behind (here state).depth item = ap (λ (p : Here). p.depth) kept.2 ∙ sym same in
+      let low = depth_sound limit state sound in
+      let behind : greatest_depth (depth_behind (here state).depth item) items ≤ limit = subst (λ (d : ℕ). greatest_depth d items ≤ limit) place h.1 in
+      (h.0, omega arith, subst (λ (d : ℕ). depth_at_end d items ≡ (here last).depth) place h.2))
+      (ih next kept.1)
   next_depth state waiting more item Stray sound same ih kept = tt
   next_depth state waiting more item Beyond sound same ih kept = tt
 
@@ -98,10 +97,10 @@ module _ (limit : ℕ) (items : Lexemes) where
       → depth_behind (here state).depth item ≡ (after (here state) item).depth
       → ((s : State) (w : List Bytes) → Sound limit s → are_notes w ≡ true → OnReading (λ last left. DepthIs limit s items last) (run limit s w items))
       → OnReading (λ last left. DepthIs limit state (item ∷ items) last)
-        (cond (is_slot (here state) item) (then_read (slot_next state waiting item) (λ next. run limit next [] items)) (then_read (plain_next limit state item) (λ next. run limit next waiting items)))
+      (cond (is_slot (here state) item) (then_read (slot_next state waiting item) (λ next. run limit next [] items)) (then_read (plain_next limit state item) (λ next. run limit next waiting items)))
   item_depth state waiting item sound noted same ih =
       by_bool (λ (b : Bool). is_slot (here state) item ≡ b → OnReading (λ last left. DepthIs limit state (item ∷ items) last)
-        (cond b (then_read (slot_next state waiting item) (λ next. run limit next [] items)) (then_read (plain_next limit state item) (λ next. run limit next waiting items))))
+      (cond b (then_read (slot_next state waiting item) (λ next. run limit next [] items)) (then_read (plain_next limit state item) (λ next. run limit next waiting items))))
       (is_slot (here state) item)
       (λ slot again. next_depth state [] _ item (slot_next state waiting item) sound same (λ s h. ih s [] h refl) (slot_kept limit state waiting item sound noted slot))
       (λ slot again. next_depth state waiting _ item (plain_next limit state item) sound same (λ s h. ih s waiting h noted) (plain_kept limit state item sound))
@@ -113,8 +112,8 @@ run_depth limit state waiting [] sound noted good = (sound, depth_sound limit st
 run_depth limit state waiting ((Note, spelling) ∷ items) sound noted good =
     let p = and_parts (is_note (note_text spelling)) (notes_good items) good in
     map_reading (λ last left. DepthIs limit state items last) (λ last left. DepthIs limit state ((Note, spelling) ∷ items) last) (run limit state (waiting ++ note_text spelling ∷ []) items)
-      (λ last left h. let low = depth_sound limit state sound in (h.0, (let g = h.1 in omega arith), h.2))
-      (run_depth limit state (waiting ++ note_text spelling ∷ []) items sound (notes_push waiting (note_text spelling) noted p.0) p.1)
+    (λ last left h. let low = depth_sound limit state sound in (h.0, (let g = h.1 in omega arith), h.2))
+    (run_depth limit state (waiting ++ note_text spelling ∷ []) items sound (notes_push waiting (note_text spelling) noted p.0) p.1)
 run_depth limit state waiting ((Word, w) ∷ items) sound noted good =
     item_depth limit items state waiting (Word, w) sound noted refl (λ s ws h n. run_depth limit s ws items h n good)
 run_depth limit state waiting ((Mark, w) ∷ items) sound noted good =
@@ -130,8 +129,8 @@ opened_deep : (limit : ℕ) (head : Head) (member : Begun) (levels : List Level)
 opened_deep limit head member levels =
     let inside = Inside head member levels spot.First in
     by_bool (λ (b : Bool). ltb (length levels) limit ≡ b → TooDeepAt limit (length levels) left_bracket (λ other. opened other head member levels) (cond b (Going inside) Beyond)) (ltb (length levels) limit)
-      (λ e again. tt)
-      (λ e again. (refl, ltb-false (length levels) limit e, λ other below. (inside, ap (λ (b : Bool). cond b (Going inside) Beyond) (lt-ltb (length levels) other below)))) refl
+    (λ e again. tt)
+    (λ e again. (refl, ltb-false (length levels) limit e, λ other below. (inside, ap (λ (b : Bool). cond b (Going inside) Beyond) (lt-ltb (length levels) other below)))) refl
 
 if_deep : (limit depth : ℕ) (item : Lexeme) (taken : ℕ → Next) (test : Bool) (state : State) → TooDeepAt limit depth item taken (going_if test state)
 if_deep limit depth item taken true state = tt
@@ -230,16 +229,21 @@ item_far : (limit : ℕ) (state : State) (waiting : List Bytes) (item : Lexeme)
     → run limit state waiting (item ∷ []) ≡ TooFar → LastDeep limit state waiting item
 item_far limit state waiting item takes e =
     by_bool (λ (b : Bool). is_slot (here state) item ≡ b → cond b (then_read (slot_next state waiting item) (λ next. run limit next [] [])) (then_read (plain_next limit state item) (λ next. run limit next waiting [])) ≡ TooFar
-        → LastDeep limit state waiting item) (is_slot (here state) item)
-      (λ slot again far. absurd (subst NotBeyond (last_far limit (slot_next state waiting item) [] far) (slot_near state waiting item)))
-      (λ slot again far.
-        let facts = subst (TooDeepAt limit (here state).depth item (λ other. plain_next other state item)) (last_far limit (plain_next limit state item) waiting far) (plain_deep limit state item) in
-        (facts.0, facts.1, λ other below.
-          let goes = facts.2 other below in
-          (goes.0, takes other
-            ∙ ap (λ (b : Bool). cond b (then_read (slot_next state waiting item) (λ next. run other next [] [])) (then_read (plain_next other state item) (λ next. run other next waiting []))) slot
-            ∙ ap (λ (n : Next). then_read n (λ next. run other next waiting [])) goes.1)))
-      refl (sym (takes limit) ∙ e)
+    → LastDeep limit state waiting item) (is_slot (here state) item)
+    (λ slot again far. absurd (subst NotBeyond (last_far limit (slot_next state waiting item) [] far) (slot_near state waiting item)))
+    (λ slot again far.
+    let facts = subst (TooDeepAt limit (here state).depth item (λ other. plain_next other state item)) (last_far limit (plain_next limit state item) waiting far) (plain_deep limit state item) in (
+      facts.0,
+      facts.1,
+      λ other below.
+          let goes = facts.2 other below in (
+            goes.0,
+            takes other
+                ∙ ap (λ (b : Bool). cond b (then_read (slot_next state waiting item) (λ next. run other next [] [])) (then_read (plain_next other state item) (λ next. run other next waiting []))) slot
+                ∙ ap (λ (n : Next). then_read n (λ next. run other next waiting [])) goes.1,
+          ),
+    ))
+    refl (sym (takes limit) ∙ e)
 
 last_deep : (limit : ℕ) (state : State) (waiting : List Bytes) (item : Lexeme) → run limit state waiting (item ∷ []) ≡ TooFar → LastDeep limit state waiting item
 last_deep limit state waiting (Note, spelling) e = let no : ◌≡◌ {A = Reading} (Read state (waiting ++ note_text spelling ∷ [])) TooFar = e in absurd (cc)
@@ -260,9 +264,9 @@ deep_stop limit front item state waiting good front_good read far =
     let high = last.1 in
     let goes = last.2 (suc limit) (omega arith) in
     let more : run (suc limit) Start [] front ≡ Read state waiting = elim (run_larger limit (suc limit) (omega arith) Start [] front) [
-        | inl missed ↦ (let none : ◌≡◌ {A = Reading} (Read state waiting) TooFar = sym read ∙ missed in absurd (cc))
-        | inr same ↦ sym same ∙ read
-      ] in
+      | inl missed ↦ (let none : ◌≡◌ {A = Reading} (Read state waiting) TooFar = sym read ∙ missed in absurd (cc))
+      | inr same ↦ sym same ∙ read
+    ] in
     record {
       bracket = last.0;
       depth = (let at = depth.2 in omega arith);

@@ -1,7 +1,7 @@
 -- What a text spells and accepts.
-use Rattle.std.specs.Prelude.{◌≡◌, ◌≤◌, ℕ, max, Bool, true, false, List, [], ◌∷◌, ◌++◌}
+use Rattle.std.specs.Prelude.{◌≡◌, ◌≤◌, ℕ, max, Bool, true, false, [], ◌∷◌, ◌++◌}
 use Rattle.std.specs.List.{list_all}
-use Rattle.idl_token.specs.declared.tokens.ItemKind.TheVariants.{Word, Mark, Note}
+use Rattle.idl_token.specs.declared.tokens.ItemKind.TheVariants.{Mark, Note}
 use Rattle.idl_token.specs.Lex.{Bytes, Lexeme, Lexemes, Lex}
 use Rattle.idl_tree.specs.Form.{Form, Deep}
 use Rattle.idl_tree.specs.Faults.{Good}

@@ -1,10 +1,7 @@
-use Rattle.std.proofs.Common.{◌≡◌, ◌≤◌, ◌<◌, [], ◌∷◌, length, Err, Ok, inl, subst, arith}
-use Rattle.idl_token.specs.Lex.{Lexemes, lexeme}
+use Rattle.std.proofs.Common.{[], inl, arith}
 use Rattle.idl_token.specs.declared.tokens.Item.{Item}
 use Rattle.idl_token.specs.declared.tokens.ItemKind.TheVariants.{Word}
-use Rattle.idl_rules.specs.Reading.{run, Read, Strayed, TooFar}
-use Rattle.idl_grammar.specs.Follows.{Continues}
-use Rattle.idl_grammar.specs.declared.faults.Stop.{Stop}
+use Rattle.idl_rules.specs.Reading.{Read, Strayed, TooFar}
 use Rattle.idl_grammar.proofs.ItemLoop.{taken_more, stops_at, ends}
 use Rattle.idl_grammar.proofs.reader.read_items.Goals as goal
 
@@ -24,9 +21,9 @@ returns-in-Err-Beyond c =
 pub loop-item-preserved : goal.loop-item-preserved
 loop-item-preserved c =
     taken_more c.args.items.now c.loop-item.item-index none c.loop-item-test.true c.loop-item.progress.state c.loop-item.progress.waiting c.loop-item.invariant
-      (Read c.in-Ok.next.state c.in-Ok.next.waiting) (c.in-Ok.ensures [])
+    (Read c.in-Ok.next.state c.in-Ok.next.waiting) (c.in-Ok.ensures [])
 
 pub returns : goal.returns
 returns c =
     ends c.args.items.now c.loop-item.item-index c.args.end c.loop-item.progress.state c.loop-item.progress.waiting c.finished.result (omega arith)
-      c.loop-item.invariant c.finished.ensures
+    c.loop-item.invariant c.finished.ensures

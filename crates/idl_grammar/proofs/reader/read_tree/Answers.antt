@@ -1,8 +1,6 @@
-use Rattle.std.proofs.Common.{List, [], map, length, All, sym, subst}
+use Rattle.std.proofs.Common.{List, map, length, All, sym, subst}
 use Rattle.idl_token.specs.Lex.{lexeme}
 use Rattle.idl_token.specs.declared.tokens.Item.{Item}
-use Rattle.idl_rules.specs.Reading.{run}
-use Rattle.idl_rules.specs.declared.states.State.TheVariants.{Start}
 use Rattle.idl_rules.proofs.Uniqueness.{lex_good}
 use Rattle.idl_grammar.specs.Follows.{IsReadable, Reads}
 use Rattle.idl_grammar.specs.Refuses.{Refuses}
@@ -19,7 +17,7 @@ read_items-requires c =
 pub returns-in-Ok : goal.returns-in-Ok
 returns-in-Ok c =
     tree_of c.in-Ok.items c.args.text.now c.in-Ok.ensures.found c.in-Ok.ensures.places c.read_items.result
-      (subst (λ (items : List Item). Reads c.read_items.result items (length c.args.text.now)) c.as_slice.ensures c.read_items.ensures)
+    (subst (λ (items : List Item). Reads c.read_items.result items (length c.args.text.now)) c.as_slice.ensures c.read_items.ensures)
 
 pub returns-in-Err : goal.returns-in-Err
 returns-in-Err c =
