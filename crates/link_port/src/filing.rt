@@ -56,7 +56,8 @@ pub trait Files {
         ensures bound { IfOk result (λ bytes. length bytes ≤ most) }
         ensures content { IfSome (holds self.old path.now) (λ content. AnswersFile content most result) }
         ensures fault { CountsFault (faults self.old) (faults self.new) result }
-        ensures asked { IfSome (paths self.old) (λ before. paths self.new ≡ Some (paths_after before path.now result)) }
+        ensures asked { IfSome (paths self.old)
+            (λ before. paths self.new ≡ Some (paths_after before path.now result)) }
         ensures kept { (name : List ℕ) → holds self.new name ≡ holds self.old name };
 }
 

@@ -92,7 +92,8 @@ impl Model for MemSink {
 
     ghost Value = { SinkInMemory };
 
-    ghost view = { λ sink. record { written = sink.bytes.items; room = sink.room; sizes = sink.sizes; calls = sink.calls } };
+    ghost view = { λ sink.
+        record { written = sink.bytes.items; room = sink.room; sizes = sink.sizes; calls = sink.calls } };
 
     ghost invariant = { λ sink. (vec_len sink.bytes ≤ sink.room) × (sink.room ≤ vec_capacity sink.bytes) };
 }
