@@ -93,9 +93,13 @@ members_fault defined before (member ∷ members) = if list_any (is_named (space
     then Some (twice (space_of member.part) member.name)
     else first_of (part_fault defined member.part) (members_fault defined (before ++ member ∷ []) members)
 
--- the first fault in text order: a type may be defined before or after its use
+-- the interface defines a type of that name, before or after its use
+abbrev pub defines : Interface → Bytes → Bool
+defines tree name = list_any (is_named Types name) tree.members
+
+-- the first fault in text order
 abbrev pub first_fault : Interface → Found
-first_fault tree = members_fault (λ name. list_any (is_named Types name) tree.members) [] tree.members
+first_fault tree = members_fault (defines tree) [] tree.members
 
 -- no name stands twice in its name space or bracket, and each type that is used is defined
 abbrev pub Good : Interface → Type 0

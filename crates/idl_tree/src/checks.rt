@@ -103,8 +103,9 @@ fn check_fields(alloc: Global, fields: &[Field], index: &Index) -> Result<(), Na
     Ok(())
 }
 
+/// Finds the first fault of the names in a type in text order.
 #[cycle(check)]
-fn check_type(alloc: Global, of: &TypeRef, index: &Index) -> Result<(), NameFault>
+pub fn check_type(alloc: Global, of: &TypeRef, index: &Index) -> Result<(), NameFault>
     ensures { Answers result (type_fault (is_type index.now) of.now) }
 {
     match &of.core {

@@ -1,13 +1,15 @@
-ghost use Rattle.std.specs.Prelude.{◌≡◌, ◌≤◌, IfOk, option_map, find, slice_get};
+ghost use Rattle.std.specs.Prelude.{◌≡◌, ◌↔◌, IsTrue, ◌≤◌, IfOk, option_map, find, slice_get};
 ghost use Rattle.std.specs.Option.{option_copied};
 ghost use Rattle.idl_tree.specs.Form.{Form, Deep};
-ghost use Rattle.idl_tree.specs.Faults.{Answers, Good, first_fault, type_named, method_named, error_named, part_named, is_named};
+ghost use Rattle.idl_tree.specs.Floats.{BodyReaches, TypeReaches};
+ghost use Rattle.idl_tree.specs.Faults.{Answers, Good, first_fault, type_fault, defines, type_named, method_named, error_named, part_named, is_named};
 
-use crate::checks::check_members;
+use crate::checks::{check_members, check_type};
 use crate::faults::NameFault;
+use crate::floats::{body_is_marked, mark_floats, type_is_marked};
 use crate::places::Index;
 use crate::spaces::Space;
-use crate::trees::{Body, Interface, Member, Part};
+use crate::trees::{Body, Interface, Member, Part, TypeRef};
 use std::alloc::Global;
 use std::marker::Model;
 
@@ -16,6 +18,8 @@ use std::marker::Model;
 pub struct Checked {
     tree: Interface,
     index: Index,
+    // Which of the types reach `float`, by their places.
+    floats: Vec<bool>,
 }
 
 impl Model for Checked {
@@ -30,7 +34,7 @@ impl Model for Checked {
 
     ghost view = { λ checked. checked.tree };
 
-    ghost invariant = { λ checked. IsChecked checked.tree checked.index };
+    ghost invariant = { λ checked. IsChecked checked.tree checked.index checked.floats.items };
 }
 
 impl Checked {
@@ -47,7 +51,12 @@ impl Checked {
         if let Err(fault) = check_members(alloc, tree.members.as_slice(), &index) {
             return Err(fault);
         }
-        Ok(Checked { tree, index })
+        let floats = mark_floats(alloc, &tree, &index)?;
+        Ok(Checked {
+            tree,
+            index,
+            floats,
+        })
     }
 
     /// Lends the tree.
@@ -89,6 +98,30 @@ impl Checked {
             Some(Part::Fault(body)) => Some(body),
             _ => None,
         }
+    }
+
+    /// Checks the names of a type that is used in this interface: in each bracket a name stands once, and
+    /// each name that is used as a type is one of the interface's. The names are visited in text order,
+    /// and the first fault is given.
+    pub fn check_type(&self, alloc: Global, of: &TypeRef) -> Result<(), NameFault>
+        ensures { Answers result (type_fault (defines self.now) of.now) }
+    {
+        check_type(alloc, of, &self.index)
+    }
+
+    /// Whether a body reaches `float`: the type of one of its fields does. It takes no memory.
+    pub fn body_reaches_float(&self, body: &Body) -> bool
+        ensures { IsTrue result ↔ BodyReaches self.now body.now }
+    {
+        body_is_marked(body, &self.index, self.floats.as_slice())
+    }
+
+    /// Whether a type reaches `float`: its core is `float`, or is a body in place or the name of a type
+    /// one of whose fields has a type that reaches `float`, in finitely many steps. It takes no memory.
+    pub fn reaches_float(&self, of: &TypeRef) -> bool
+        ensures { IsTrue result ↔ TypeReaches self.now of.now }
+    {
+        type_is_marked(of, &self.index, self.floats.as_slice())
     }
 
     // The part of the member of that name.

@@ -89,7 +89,8 @@ fn body_has_form(body: &Body) -> bool
 
 #[cycle(form)]
 fn fields_have_form(fields: &[Field]) -> bool
-    ensures { result ≡ list_all (λ field. are_notes field.notes && is_field_name field.name && type_form field.of) fields.now }
+    ensures { result ≡ list_all
+        (λ field. are_notes field.notes && is_field_name field.name && type_form field.of) fields.now }
 {
     for field in fields {
         if !field_has_form(field) {
@@ -101,7 +102,8 @@ fn fields_have_form(fields: &[Field]) -> bool
 
 #[cycle(form)]
 fn field_has_form(field: &Field) -> bool
-    ensures { result ≡ (are_notes field.now.notes && is_field_name field.now.name && type_form field.now.of) }
+    ensures { result
+        ≡ (are_notes field.now.notes && is_field_name field.now.name && type_form field.now.of) }
 {
     are_notes(field.notes.as_slice())
         && is_field_name(field.name.as_str())
@@ -171,7 +173,8 @@ fn is_note(note: &str) -> bool
 
 // Whether the last byte is no space and no tab.
 fn ends_bare(bytes: &[u8]) -> bool
-    ensures { result ≡ not (slice_index bytes.now (length bytes.now - 1) == 32 || slice_index bytes.now (length bytes.now - 1) == 9) }
+    ensures { result ≡ not (slice_index bytes.now (length bytes.now - 1) == 32
+        || slice_index bytes.now (length bytes.now - 1) == 9) }
 {
     match bytes.last() {
         Some(last) => !matches!(*last, b' ' | b'\t'),

@@ -2,7 +2,7 @@ use crate::{
     Body, Checked, Core, Field, Interface, Member, NameFault, Part, TypeRef, in_form,
     is_field_name, is_interface_name, is_member_name,
 };
-use link_port::{List, Memory, Text};
+use link_port::{Box, List, Memory, Text};
 use std::alloc::Global;
 
 #[test]
@@ -38,6 +38,12 @@ fn checks_names(rt: HostRuntime) {
                     assert!(rt; checked.method("A").is_some());
                     assert!(rt; checked.error_of("A").is_some());
                     assert!(rt; checked.error_of("B").is_none());
+                    if let Some(body) = checked.lookup_type("A") {
+                        assert!(rt; !checked.body_reaches_float(body));
+                    }
+                    let float = float(rt.alloc());
+                    assert!(rt; checked.reaches_float(&float));
+                    assert!(rt; checked.check_type(rt.alloc(), &float).is_ok());
                 }
                 Err(_) => assert!(rt; false, "the names are good"),
             }
@@ -60,18 +66,56 @@ fn finds_unknown_type(rt: HostRuntime) {
     }
 }
 
+#[test]
+fn float_is_reached_through_names_and_brackets(rt: HostRuntime) {
+    match chain(rt.alloc()) {
+        Ok(tree) => {
+            assert!(rt; in_form(&tree));
+            match Checked::of(rt.alloc(), tree) {
+                Ok(checked) => {
+                    for (name, reaches) in [("A", true), ("B", true), ("C", false)] {
+                        match checked.lookup_type(name) {
+                            Some(body) => {
+                                assert_eq!(rt; checked.body_reaches_float(body), reaches, "{name}");
+                            }
+                            None => assert!(rt; false, "{name} is defined"),
+                        }
+                    }
+                }
+                Err(_) => assert!(rt; false, "the names are good"),
+            }
+        }
+        Err(_) => assert!(rt; false, "out of memory"),
+    }
+}
+
+// interface a.b type A (x: B) type B (x: (x: float)) type C (x: C)
+fn chain(alloc: Global) -> Result<Interface, Memory> {
+    let in_place = Core::Inline(Box::new(alloc, one_field(alloc, Core::Float)?)?);
+    let mut members = List::new(alloc);
+    for (name, core) in [
+        ("A", name_of(alloc, "B")?),
+        ("B", in_place),
+        ("C", name_of(alloc, "C")?),
+    ] {
+        members.push(member(alloc, name, Part::Shape(one_field(alloc, core)?))?)?;
+    }
+    interface(alloc, members)
+}
+
 // interface a.b type A (x: USED) method A() -> (x: USED) error A ()
 fn sample(alloc: Global, used: &str) -> Result<Interface, Memory> {
+    let input = no_field(alloc);
+    let output = one_field(alloc, name_of(alloc, used)?)?;
     let mut members = List::new(alloc);
-    members.push(member(alloc, Part::Shape(one_field(alloc, used)?))?)?;
-    members.push(member(
-        alloc,
-        Part::Method {
-            input: no_field(alloc),
-            output: one_field(alloc, used)?,
-        },
-    )?)?;
-    members.push(member(alloc, Part::Fault(no_field(alloc)))?)?;
+    let shape = one_field(alloc, name_of(alloc, used)?)?;
+    members.push(member(alloc, "A", Part::Shape(shape))?)?;
+    members.push(member(alloc, "A", Part::Method { input, output })?)?;
+    members.push(member(alloc, "A", Part::Fault(no_field(alloc)))?)?;
+    interface(alloc, members)
+}
+
+fn interface(alloc: Global, members: List<Member>) -> Result<Interface, Memory> {
     Ok(Interface {
         notes: List::new(alloc),
         name: Text::of(alloc, "a.b")?,
@@ -80,12 +124,23 @@ fn sample(alloc: Global, used: &str) -> Result<Interface, Memory> {
     })
 }
 
-fn member(alloc: Global, part: Part) -> Result<Member, Memory> {
+fn member(alloc: Global, name: &str, part: Part) -> Result<Member, Memory> {
     Ok(Member {
         notes: List::new(alloc),
-        name: Text::of(alloc, "A")?,
+        name: Text::of(alloc, name)?,
         part,
     })
+}
+
+fn name_of(alloc: Global, name: &str) -> Result<Core, Memory> {
+    Ok(Core::Name(Text::of(alloc, name)?))
+}
+
+fn float(alloc: Global) -> TypeRef {
+    TypeRef {
+        prefixes: List::new(alloc),
+        core: Core::Float,
+    }
 }
 
 fn no_field(alloc: Global) -> Body {
@@ -95,14 +150,14 @@ fn no_field(alloc: Global) -> Body {
     }
 }
 
-fn one_field(alloc: Global, used: &str) -> Result<Body, Memory> {
+fn one_field(alloc: Global, core: Core) -> Result<Body, Memory> {
     let mut fields = List::new(alloc);
     fields.push(Field {
         notes: List::new(alloc),
         name: Text::of(alloc, "x")?,
         of: TypeRef {
             prefixes: List::new(alloc),
-            core: Core::Name(Text::of(alloc, used)?),
+            core,
         },
     })?;
     Ok(Body::Struct {
