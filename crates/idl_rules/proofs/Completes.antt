@@ -141,7 +141,7 @@ module _ (limit : ℕ) (head : Head) (member : Begun) where
     ]
 
     -- a type, behind the colon of a field
-    type_runs : (fields : List Field) (field : Field) (items : Lexemes) → type_form field.of ≡ true → type_depth field.of ≤ n → type_depth field.of + suc (length levels) ≤ limit
+    pub type_runs : (fields : List Field) (field : Field) (items : Lexemes) → type_form field.of ≡ true → type_depth field.of ≤ n → type_depth field.of + suc (length levels) ≤ limit
         → run limit (Inside head member levels (spot.Prefixes (record { fields = fields; notes = field.notes; name = field.name; prefixes = [] }))) [] (type_items field.of ++ items)
         ≡ run limit (Inside head member levels (spot.Fields (fields ++ field ∷ []))) [] items
     type_runs fields field items form low within =

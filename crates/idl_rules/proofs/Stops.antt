@@ -63,7 +63,7 @@ taken_goes limit some items state waiting good taken =
     (c.rest, c.tree, c.bare, is.form, is.settled)
 
 -- the brackets that are open
-depth_sound : (limit : ℕ) (state : State) → Sound limit state → (here state).depth ≤ limit
+pub depth_sound : (limit : ℕ) (state : State) → Sound limit state → (here state).depth ≤ limit
 depth_sound limit (Inside head member levels at) s = s.within
 depth_sound limit Start s = omega arith
 depth_sound limit (Headed notes) s = omega arith
@@ -245,7 +245,7 @@ item_far limit state waiting item takes e =
     ))
     refl (sym (takes limit) ∙ e)
 
-last_deep : (limit : ℕ) (state : State) (waiting : List Bytes) (item : Lexeme) → run limit state waiting (item ∷ []) ≡ TooFar → LastDeep limit state waiting item
+pub last_deep : (limit : ℕ) (state : State) (waiting : List Bytes) (item : Lexeme) → run limit state waiting (item ∷ []) ≡ TooFar → LastDeep limit state waiting item
 last_deep limit state waiting (Note, spelling) e = let no : ◌≡◌ {A = Reading} (Read state (waiting ++ note_text spelling ∷ [])) TooFar = e in absurd (cc)
 last_deep limit state waiting (Word, w) e = item_far limit state waiting (Word, w) (λ l. refl) e
 last_deep limit state waiting (Mark, w) e = item_far limit state waiting (Mark, w) (λ l. refl) e

@@ -1,7 +1,6 @@
 pub mod Canon
 pub mod Grammar
 pub mod Items
-pub mod Samples
 pub mod Settle
 pub mod Spells
 pub mod Reading
