@@ -1,8 +1,7 @@
 -- what begins a whole spelling is a front, and a front can be completed
-use Rattle.std.proofs.Common.{◌≡◌, Bool, true, List, [], ◌∷◌, ◌++◌, refl, sym, ap, subst, ◌∙◌, append_assoc, inl, inr, ◌⊎◌}
-use Rattle.std.proofs.lemmas.List.{append-nil}
+use Rattle.std.proofs.Common.{◌≡◌, Bool, true, [], ◌∷◌, ◌++◌, refl, sym, ap, subst, ◌∙◌, append_assoc}
 use Rattle.idl_token.specs.Lex.{Lexeme, Lexemes}
-use Rattle.idl_rules.specs.Grammar.{Grammar, one, in_row, either, many, a_type, type_rule, Whole, an_item, a_row, on_left, on_right, no_turn, a_turn, the_type, Front, nothing, whole, of_first, of_next, of_left, of_right, of_turn, of_type}
+use Rattle.idl_rules.specs.Grammar.{Grammar, one, in_row, many, type_rule, Whole, an_item, a_row, on_left, on_right, no_turn, a_turn, the_type, Front, nothing, whole, of_first, of_next, of_left, of_right, of_turn, of_type}
 
 -- of two ways to cut a list, one is the longer
 pub data Cut (xs ys items more : Lexemes) : Type 0 where

@@ -1,11 +1,10 @@
 -- a front is what goes on
-use Rattle.std.proofs.Common.{◌≡◌, ℕ, zero, suc, ◌+◌, ◌<◌, ◌≤◌, Bool, true, false, ◌&&◌, cond, List, [], ◌∷◌, ◌++◌, length, codes, refl, sym, ap, subst, ◌∙◌, append_assoc, arith, inl, inr, ◌⊎◌, length-append}
+use Rattle.std.proofs.Common.{◌≡◌, ℕ, zero, suc, ◌+◌, ◌<◌, ◌≤◌, Bool, true, ◌&&◌, cond, List, [], ◌∷◌, ◌++◌, length, codes, refl, sym, ap, subst, ◌∙◌, append_assoc, arith, inl, inr, length-append}
 use Rattle.std.specs.List.{list_all}
 use Rattle.std.specs.Str.{bytes_eq}
 use Rattle.std.proofs.lemmas.List.{append-nil}
 use Rattle.std.proofs.lemmas.List.Folds.{list_all-append}
 use Rattle.std.proofs.lemmas.Bool.{and_from, and_parts, true≢false}
-use Rattle.std.proofs.lemmas.Bool.Decides.{nat_tests}
 use Rattle.idl_token.specs.Lex.{Bytes, Lexeme, Lexemes}
 use Rattle.idl_token.specs.declared.tokens.ItemKind.TheVariants.{Word, Mark, Note}
 use Rattle.idl_tree.specs.declared.trees.Interface.{Interface}
@@ -14,7 +13,7 @@ use Rattle.idl_tree.specs.Names.{is_interface_name, is_member_name, is_field_nam
 use Rattle.idl_rules.specs.Settle.{outside, one_less}
 use Rattle.idl_rules.specs.Spells.{GoesOn, is_bare, depth_behind, depth_at_end}
 use Rattle.idl_rules.specs.Grammar.{Grammar, one, in_row, either, many, a_type, type_rule, plain, field, a_list, a_struct, body, member, definition, the_word, the_mark, a_name, Whole, an_item, a_row, on_left, on_right, no_turn, a_turn, the_type, Front, nothing, whole, of_first, of_next, of_left, of_right, of_turn, of_type}
-use Rattle.idl_rules.specs.Reading.{Reading, Read, Strayed, TooFar, run, whole as whole_reading, note_good, notes_good}
+use Rattle.idl_rules.specs.Reading.{Reading, Read, Strayed, TooFar, run, note_good, notes_good}
 use Rattle.idl_rules.specs.declared.states.State.{State}
 use Rattle.idl_rules.specs.declared.states.State.TheVariants.{Start, Headed, Between, Keyed, Ready, Middle, Inside}
 use Rattle.idl_rules.proofs.Words.{bytes_same}
@@ -29,17 +28,17 @@ use Rattle.idl_fronts.proofs.Leads.{bare_settled}
 use Rattle.idl_fronts.proofs.Members.{IsBetween, definition_passes}
 
 -- each part has an example
-abbrev Good : Grammar → Type 0
+abbrev pub Good : Grammar → Type 0
 Good (one test) = (item : Lexeme) × (without_notes (item ∷ []) ≡ item ∷ []) × (test item ≡ true)
 Good (in_row first next) = Good first × Good next
 Good (either left right) = Good left × Good right
 Good (many turn) = Good turn
 Good a_type = Unit {0}
 
-record Sample (part : Grammar) (front : Lexemes) : Type 0 where
-  rest : Lexemes
-  bare : without_notes rest ≡ rest
-  spelled : Whole part (front ++ rest)
+pub record Sample (part : Grammar) (front : Lexemes) : Type 0 where
+  pub rest : Lexemes
+  pub bare : without_notes rest ≡ rest
+  pub spelled : Whole part (front ++ rest)
 
 sample : (part : Grammar) → Good part → Sample part []
 sample (one test) (item, bare, h) = record { rest = item ∷ []; bare = bare; spelled = an_item h }
@@ -105,7 +104,7 @@ good_member = (
 good_definition : Good definition
 good_definition = (good_word (codes "interface"), (good_name is_interface_name (codes "a.b") refl, good_member))
 
-completed : (part : Grammar) (front : Lexemes) → Front part front → Good part → Sample part front
+pub completed : (part : Grammar) (front : Lexemes) → Front part front → Good part → Sample part front
 completed part front nothing g = sample part g
 completed part front (whole w) g = record { rest = []; bare = refl; spelled = subst (λ (x : Lexemes). Whole part x) (sym (append-nil front)) w }
 completed part front (of_first {first = first} {next = next} f) (g, h) =

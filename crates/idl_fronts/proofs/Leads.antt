@@ -1,10 +1,10 @@
 -- readings of items by what they are without notes
-use Rattle.std.proofs.Common.{◌≡◌, ℕ, Bool, true, false, cond, List, [], ◌∷◌, ◌++◌, refl, sym, ap, subst, ◌∙◌, append_assoc, inl, inr, ◌⊎◌}
+use Rattle.std.proofs.Common.{◌≡◌, ℕ, Bool, cond, List, [], ◌∷◌, ◌++◌, refl, sym, ap, subst, ◌∙◌, append_assoc, inl, inr, ◌⊎◌}
 use Rattle.idl_token.specs.Lex.{Bytes, Lexeme, Lexemes}
 use Rattle.idl_token.specs.declared.tokens.ItemKind.TheVariants.{Word, Mark, Note}
 use Rattle.idl_rules.specs.Items.{notes_items}
 use Rattle.idl_rules.specs.Settle.{Here, settled, is_slot, after, note_text}
-use Rattle.idl_rules.specs.Reading.{Reading, Read, Strayed, TooFar, run}
+use Rattle.idl_rules.specs.Reading.{TooFar, run}
 use Rattle.idl_rules.specs.declared.states.State.{State}
 use Rattle.idl_rules.proofs.Runs.{by_bool}
 use Rattle.idl_fronts.specs.Bare.{without_notes}

@@ -1,25 +1,23 @@
 -- whole members and definitions are read
-use Rattle.std.proofs.Common.{◌≡◌, ℕ, zero, suc, ◌+◌, ◌<◌, Bool, true, false, cond, List, [], ◌∷◌, ◌++◌, length, codes, refl, sym, ap, subst, ◌∙◌, arith, inl, inr, ◌⊎◌, length-append}
-use Rattle.std.specs.Str.{bytes_eq}
+use Rattle.std.proofs.Common.{◌≡◌, ℕ, ◌<◌, Bool, true, false, cond, List, [], ◌∷◌, length, codes, refl, sym, ap, subst, ◌∙◌, arith, inr, length-append}
 use Rattle.std.proofs.lemmas.Bool.{cond-false}
-use Rattle.idl_token.specs.Lex.{Bytes, Lexeme, Lexemes}
+use Rattle.idl_token.specs.Lex.{Bytes, Lexemes}
 use Rattle.idl_tree.specs.declared.trees.Body.{Body}
-use Rattle.idl_tree.specs.Names.{is_interface_name, is_member_name, is_field_name}
-use Rattle.idl_rules.specs.Items.{word, mark}
+use Rattle.idl_tree.specs.Names.{is_interface_name, is_member_name}
+use Rattle.idl_rules.specs.Items.{word}
 use Rattle.idl_rules.specs.Settle.{is_keyword}
-use Rattle.idl_rules.specs.Grammar.{Grammar, one, in_row, either, many, a_struct, body, member, definition, the_word, the_mark, a_name, is_word_of, is_mark_of, Whole, an_item, a_row, on_left, on_right, no_turn, a_turn}
-use Rattle.idl_rules.specs.Reading.{Next, going_if, closed, takes_enum, kind_of, Reading, TooFar, run, then_read, slot_next}
+use Rattle.idl_rules.specs.Grammar.{many, a_struct, body, member, definition, the_word, the_mark, a_name, Whole, on_left, on_right, no_turn, a_turn}
+use Rattle.idl_rules.specs.Reading.{going_if, closed, takes_enum, kind_of, run, then_read, slot_next}
 use Rattle.idl_rules.specs.declared.states.State.{State}
 use Rattle.idl_rules.specs.declared.states.State.TheVariants.{Start, Headed, Between, Keyed, Ready, Middle, Inside}
 use Rattle.idl_rules.specs.declared.states.Head.{Head}
-use Rattle.idl_rules.specs.declared.states.Begun.{Begun}
 use Rattle.idl_rules.specs.declared.states.Kind.{Kind}
 use Rattle.idl_rules.specs.declared.states.Kind.TheVariants.{Shape, Input, Output, Fault}
 use Rattle.idl_rules.specs.declared.states.Keyword.{Keyword}
 use Rattle.idl_rules.specs.declared.states.Keyword.TheVariants.{Types, Methods, Errors}
 use Rattle.idl_rules.proofs.Trees.{member_no_keyword, interface_no_keyword}
-use Rattle.idl_fronts.proofs.Leads.{Leads, Reaches, seq, none, Steps, token}
-use Rattle.idl_fronts.proofs.Passes.{Passes, one_passes, word_passes, mark_passes, name_passes, row_passes, types_pass, struct_passes, body_passes, Closed, reaches_as}
+use Rattle.idl_fronts.proofs.Leads.{Reaches, seq, none}
+use Rattle.idl_fronts.proofs.Passes.{Passes, word_passes, mark_passes, name_passes, row_passes, types_pass, struct_passes, body_passes, Closed, reaches_as}
 
 -- kinds of states outside brackets
 abbrev IsHeaded : State → Type 0

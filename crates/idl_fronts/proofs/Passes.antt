@@ -1,20 +1,17 @@
 -- whole spellings are read from the state that waits for them
-use Rattle.std.proofs.Common.{◌≡◌, ℕ, zero, suc, ◌+◌, ◌<◌, ◌≤◌, Bool, true, false, ◌&&◌, not, cond, ltb, List, [], ◌∷◌, ◌++◌, Option, Some, None, length, codes, refl, sym, ap, subst, ◌∙◌, append_assoc, arith, inl, inr, ◌⊎◌, length-append}
-use Rattle.std.specs.Str.{bytes_eq}
-use Rattle.std.proofs.lemmas.Bool.{cond-true, cond-false, true≢false}
+use Rattle.std.proofs.Common.{◌≡◌, ℕ, zero, suc, ◌<◌, Bool, true, false, not, cond, ltb, List, [], ◌∷◌, ◌++◌, Option, Some, length, codes, refl, sym, ap, subst, ◌∙◌, arith, inl, inr, ◌⊎◌, length-append}
+use Rattle.std.proofs.lemmas.Bool.{true≢false}
 use Rattle.idl_token.specs.Lex.{Bytes, Lexeme, Lexemes}
 use Rattle.idl_token.specs.declared.tokens.ItemKind.TheVariants.{Word, Mark, Note}
 use Rattle.idl_tree.specs.declared.trees.Body.{Body}
-use Rattle.idl_tree.specs.declared.trees.Field.{Field}
-use Rattle.idl_tree.specs.declared.trees.Named.{Named}
 use Rattle.idl_tree.specs.declared.trees.Core.{Core}
 use Rattle.idl_tree.specs.declared.trees.Body.TheVariants.{Struct, Enum, Bool as BoolCore, Int, Float, Str, Object, Name}
 use Rattle.idl_tree.specs.declared.trees.Prefix.{Prefix}
 use Rattle.idl_tree.specs.declared.trees.Prefix.TheVariants.{Array, Map, Maybe}
-use Rattle.idl_tree.specs.Names.{is_interface_name, is_member_name, is_field_name}
-use Rattle.idl_rules.specs.Items.{word, mark, left_bracket, right_bracket}
-use Rattle.idl_rules.specs.Grammar.{Grammar, one, in_row, either, many, a_type, type_rule, plain, field, a_list, a_struct, body, member, definition, the_word, the_mark, a_name, is_word_of, is_mark_of, is_name_of, Whole, an_item, a_row, on_left, on_right, no_turn, a_turn, the_type}
-use Rattle.idl_rules.specs.Reading.{Next, Going, Stray, Beyond, going_if, some_if, inside_next, close_next, opened, closed, finished, with_core, with_prefix, takes_enum, ends_with_maybe, core_of, cored, Reading, TooFar, run, then_read}
+use Rattle.idl_tree.specs.Names.{is_member_name, is_field_name}
+use Rattle.idl_rules.specs.Items.{word, mark, left_bracket}
+use Rattle.idl_rules.specs.Grammar.{Grammar, one, in_row, many, a_type, plain, field, a_list, a_struct, body, the_word, the_mark, a_name, is_word_of, is_mark_of, is_name_of, Whole, an_item, a_row, on_left, on_right, no_turn, a_turn, the_type}
+use Rattle.idl_rules.specs.Reading.{Going, Beyond, some_if, inside_next, close_next, opened, closed, with_core, with_prefix, takes_enum, ends_with_maybe, core_of, cored, TooFar, run, then_read}
 use Rattle.idl_rules.specs.declared.states.State.{State}
 use Rattle.idl_rules.specs.declared.states.State.TheVariants.{Start, Headed, Between, Keyed, Ready, Middle, Inside}
 use Rattle.idl_rules.specs.declared.states.Head.{Head}
@@ -25,19 +22,19 @@ use Rattle.idl_rules.specs.declared.states.Spot.TheVariants as spot
 use Rattle.idl_rules.proofs.Words.{same_bytes}
 use Rattle.idl_rules.proofs.Runs.{by_bool}
 use Rattle.idl_rules.proofs.Completes.{core_of_name}
-use Rattle.idl_fronts.proofs.Leads.{Leads, Reaches, seq, none, Steps, token}
+use Rattle.idl_fronts.proofs.Leads.{Reaches, seq, none, Steps, token}
 
-word_is : (w : Bytes) (item : Lexeme) → is_word_of w item ≡ true → item ≡ word w
+pub word_is : (w : Bytes) (item : Lexeme) → is_word_of w item ≡ true → item ≡ word w
 word_is w (Word, v) h = ap word (same_bytes v w h)
 word_is w (Mark, v) h = absurd (true≢false (sym h))
 word_is w (Note, v) h = absurd (true≢false (sym h))
 
-mark_is : (w : Bytes) (item : Lexeme) → is_mark_of w item ≡ true → item ≡ mark w
+pub mark_is : (w : Bytes) (item : Lexeme) → is_mark_of w item ≡ true → item ≡ mark w
 mark_is w (Mark, v) h = ap mark (same_bytes v w h)
 mark_is w (Word, v) h = absurd (true≢false (sym h))
 mark_is w (Note, v) h = absurd (true≢false (sym h))
 
-name_is : (form : Bytes → Bool) (item : Lexeme) → is_name_of form item ≡ true → (w : Bytes) × (item ≡ word w) × (form w ≡ true)
+pub name_is : (form : Bytes → Bool) (item : Lexeme) → is_name_of form item ≡ true → (w : Bytes) × (item ≡ word w) × (form w ≡ true)
 name_is form (Word, v) h = (v, refl, h)
 name_is form (Mark, v) h = absurd (true≢false (sym h))
 name_is form (Note, v) h = absurd (true≢false (sym h))

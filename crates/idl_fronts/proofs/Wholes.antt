@@ -1,5 +1,5 @@
 -- the items of a tree in form, without notes, are a whole spelling
-use Rattle.std.proofs.Common.{◌≡◌, ℕ, zero, suc, ◌+◌, ◌≤◌, max, Bool, true, false, ◌&&◌, not, eqb, List, [], ◌∷◌, ◌++◌, map, length, codes, refl, sym, ap, subst, ◌∙◌, append_assoc, arith}
+use Rattle.std.proofs.Common.{◌≡◌, ℕ, zero, suc, ◌≤◌, Bool, true, false, ◌&&◌, not, eqb, List, [], ◌∷◌, ◌++◌, map, length, codes, refl, sym, ap, subst, ◌∙◌, append_assoc, arith}
 use Rattle.std.specs.List.{flat_map, list_all}
 use Rattle.std.proofs.lemmas.List.{append-nil}
 use Rattle.std.proofs.lemmas.Bool.{and_parts, true≢false, not-true}
@@ -12,18 +12,18 @@ use Rattle.idl_tree.specs.declared.trees.Field.{Field}
 use Rattle.idl_tree.specs.declared.trees.TypeRef.{TypeRef}
 use Rattle.idl_tree.specs.declared.trees.Core.{Core}
 use Rattle.idl_tree.specs.declared.trees.Body.{Body}
-use Rattle.idl_tree.specs.declared.trees.Body.TheVariants.{Struct, Enum, Bool as BoolCore, Int, Float, Str, Object, Name, Inline, outs-Enum}
+use Rattle.idl_tree.specs.declared.trees.Body.TheVariants.{Enum, outs-Enum}
 use Rattle.idl_tree.specs.declared.trees.Part.{Part}
 use Rattle.idl_tree.specs.declared.trees.Part.TheVariants as part
 use Rattle.idl_tree.specs.declared.trees.Prefix.{Prefix}
 use Rattle.idl_tree.specs.declared.trees.Prefix.TheVariants.{Array, Map, Maybe}
 use Rattle.idl_tree.specs.Names.{is_interface_name, is_member_name, is_field_name}
-use Rattle.idl_tree.specs.Form.{Form, body_form, type_form, core_form, are_notes, named_form, has_single_maybes, begins_with_maybe, body_depth, type_depth, greatest, is_struct, member_form, part_form, part_depth}
-use Rattle.idl_rules.specs.Items.{Items, word, mark, left_bracket, right_bracket, comma, colon, arrow, joined, note, notes_items, named_items, body_items, core_items, type_items, member_items, part_items}
-use Rattle.idl_rules.specs.Grammar.{Grammar, one, in_row, either, many, a_type, type_rule, plain, field, a_list, a_struct, body, member, definition, the_word, the_mark, a_name, is_name_of, Whole, an_item, a_row, on_left, on_right, no_turn, a_turn, the_type}
-use Rattle.idl_rules.proofs.Folds.{prefixes_items, field_items, field_form, field_depth, core_depth, struct_items, enum_items, inline_items, name_items, type_is, struct_form, enum_form, inline_form, name_form, type_form_is, type_depth_is, inline_depth, struct_depth, enum_depth, bool_items, int_items, float_items, string_items, object_items}
+use Rattle.idl_tree.specs.Form.{Form, body_form, type_form, core_form, are_notes, named_form, has_single_maybes, begins_with_maybe, body_depth, type_depth, greatest, is_struct, member_form, part_form}
+use Rattle.idl_rules.specs.Items.{Items, word, mark, left_bracket, right_bracket, comma, colon, arrow, joined, notes_items, named_items, body_items, core_items, type_items, member_items, part_items}
+use Rattle.idl_rules.specs.Grammar.{Grammar, one, in_row, many, a_type, plain, field, a_list, a_struct, body, member, definition, the_word, the_mark, a_name, Whole, an_item, a_row, on_left, on_right, no_turn, a_turn, the_type}
+use Rattle.idl_rules.proofs.Folds.{prefixes_items, field_items, field_form, field_depth, core_depth, struct_items, enum_items, inline_items, name_items, type_is, struct_form, enum_form, inline_form, name_form, type_form_is, type_depth_is, inline_depth, struct_depth, bool_items, int_items, float_items, string_items, object_items}
 use Rattle.idl_rules.proofs.Words.{bytes_same}
-use Rattle.idl_rules.proofs.Views.{BodyView, a_struct as struct_view, an_enum, body_view, CoreView, a_bool, an_int, a_float, a_string, an_object, a_name as name_view, a_body, core_view}
+use Rattle.idl_rules.proofs.Views.{a_struct as struct_view, an_enum, body_view, a_bool, an_int, a_float, a_string, an_object, a_name as name_view, a_body, core_view}
 use Rattle.idl_rules.proofs.Completes.{some_depth}
 use Rattle.idl_fronts.specs.Bare.{without_notes}
 
@@ -94,7 +94,7 @@ module _ (n : ℕ) (bodies : BodyWhole n) where
       let rest = prefixes_whole prefixes core w p.1 in
       (the_type (on_right (a_row (the_mark_whole (codes "?")) (rest.1 (not-true _ p.0)) refl)), λ e. absurd (true≢false e))
 
-  type_whole : (of : TypeRef) → type_form of ≡ true → type_depth of ≤ n → W a_type (type_items of)
+  pub type_whole : (of : TypeRef) → type_form of ≡ true → type_depth of ≤ n → W a_type (type_items of)
   type_whole of form low =
       let p = and_parts (has_single_maybes of.prefixes) (core_form of.core) (sym (type_form_is of) ∙ form) in
       let depth = type_depth_is of in

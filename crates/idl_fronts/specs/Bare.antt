@@ -1,7 +1,7 @@
 -- items without the notes among them
-use Rattle.std.specs.Prelude.{List, [], ◌∷◌}
-use Rattle.idl_token.specs.Lex.{Bytes, Lexeme, Lexemes}
-use Rattle.idl_token.specs.declared.tokens.ItemKind.TheVariants.{Word, Mark, Note}
+use Rattle.std.specs.Prelude.{[], ◌∷◌}
+use Rattle.idl_token.specs.Lex.{Lexemes}
+use Rattle.idl_token.specs.declared.tokens.ItemKind.TheVariants.{Note}
 
 abbrev pub without_notes : Lexemes → Lexemes
 without_notes [] = []

@@ -9,5 +9,6 @@ ghost use Rattle.idl_fronts.specs.Bare.{without_notes};
 /// the items, notes left out, are a front of the grammar: nothing or whole spellings of the first
 /// parts, and a front of the next one. The notes among the items have the form that a text gives them.
 pub fn fronts_go_on()
-    ensures { (items : Lexemes) → notes_good items ≡ true → (GoesOn items ↔ Front definition (without_notes items)) }
+    ensures { (items : Lexemes) → notes_good items ≡ true
+        → (GoesOn items ↔ Front definition (without_notes items)) }
 {}
