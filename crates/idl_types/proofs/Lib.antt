@@ -1,0 +1,5 @@
+pub mod Places
+pub mod Nested
+pub mod Takes
+pub mod Closes
+pub mod Readings

@@ -1,0 +1,2 @@
+pub mod TypeReading
+pub mod Types
