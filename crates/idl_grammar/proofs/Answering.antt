@@ -1,14 +1,14 @@
 -- what the reading of a text's items tells of the text
-use Rattle.std.proofs.Common.{◌≡◌, ℕ, ◌<◌, ◌≤◌, true, List, [], ◌∷◌, ◌++◌, map, length, append_assoc, Option, None, Result, Ok, Err, Some, refl, sym, ap, subst, ◌∙◌, arith, inl, inr}
+use Rattle.std.proofs.Common.{◌≡◌, ℕ, ◌<◌, ◌≤◌, true, List, [], ◌∷◌, ◌++◌, map, length, Option, None, Result, Ok, Err, Some, refl, sym, ap, subst, ◌∙◌, arith, inl, inr}
 use Rattle.std.proofs.lemmas.Bool.{cases_lt}
 use Rattle.std.specs.Str.{IsUtf8}
 use Rattle.std.specs.Str.Lossy.{utf8_valid_len}
-use Rattle.idl_token.specs.Lex.{Bytes, Lexemes, Placed, Lex, LexAt, BadByteAt, lexeme, placed}
+use Rattle.idl_token.specs.Lex.{Bytes, Lexemes, Lex, LexAt, BadByteAt, lexeme, placed}
 use Rattle.idl_token.specs.declared.tokens.Item.{Item}
 use Rattle.idl_token.specs.declared.tokens.TokenFault.{TokenFault}
 use Rattle.idl_tree.specs.declared.trees.Interface.{Interface}
 use Rattle.idl_tree.specs.Form.{Deep}
-use Rattle.idl_tree.specs.Faults.{first_fault, Reports}
+use Rattle.idl_tree.specs.Faults.{first_fault}
 use Rattle.idl_rules.specs.Spells.{Spells, Accepts}
 use Rattle.idl_rules.specs.Reading.{Reading, Read, Strayed, TooFar, run, whole}
 use Rattle.idl_rules.specs.declared.states.State.TheVariants.{Start}
@@ -18,16 +18,17 @@ use Rattle.idl_tree.specs.declared.faults.NameFault.{NameFault}
 use Rattle.idl_tree.specs.declared.faults.NameFault.TheVariants as name
 use Rattle.idl_grammar.specs.declared.faults.IdlFault.{IdlFault}
 use Rattle.idl_grammar.specs.declared.faults.IdlFault.TheVariants as fault
-use Rattle.std.proofs.lemmas.List.{map-append}
 use Rattle.std.proofs.lemmas.List.Folds.{list_all-append}
 use Rattle.std.proofs.lemmas.Bool.{and_parts}
 use Rattle.idl_rules.proofs.Fronts.{go_on, run_append}
 use Rattle.idl_rules.proofs.Stops.{stray_stops, taken_goes, deep_stop, front_depth}
 use Rattle.idl_rules.proofs.Uniqueness.{lex_good}
-use Rattle.idl_rules.specs.Spells.{GoesOn, greatest_depth, depth_at_end}
+use Rattle.idl_rules.specs.Spells.{greatest_depth, depth_at_end}
+use Rattle.idl_fronts.proofs.Completion.{front_goes, goes_front}
 use Rattle.idl_rules.specs.Reading.{note_good, notes_good}
-use Rattle.idl_grammar.specs.Follows.{StopsAt, EndsIn, Reads, TreeOf, Checks, of_name, of_token}
-use Rattle.idl_grammar.specs.Refuses.{Answers, Refuses, Gives, Misnames, bare, Stands}
+use Rattle.idl_grammar.proofs.Stopping.{bare_placed, cut_whole, stop_stands}
+use Rattle.idl_grammar.specs.Follows.{StopsAt, EndsIn, Reads, TreeOf, Checks, of_token}
+use Rattle.idl_grammar.specs.Refuses.{Answers, Refuses, Gives, Misnames, BeginsDefinition}
 
 -- a reading that is neither of a tree nor too deep is that of no tree
 never : (items : Lexemes) (text : Bytes) → Lex items text → (run 64 Start [] items ≡ TooFar → ⊥) → ((tree : Interface) → run 64 Start [] items ≡ whole tree → ⊥)
@@ -42,39 +43,25 @@ too_deep items text lex e tree spells =
       | inr within ↦ (let no : ◌≡◌ {A = Reading} TooFar (whole tree) = sym e ∙ spelled_read 64 items text tree lex spells within in absurd (cc))
     ]
 
-bare_placed : (items : List Item) → bare (map placed items) ≡ map lexeme items
-bare_placed [] = refl
-bare_placed (item ∷ items) = ap (λ (rest : Lexemes). lexeme item ∷ rest) (bare_placed items)
-
-module _ (items : List Item) (text : Bytes) (lex : Lex (map lexeme items) text) (places : LexAt (length text) (map placed items) text) (reading : Reading) (at : ℕ) (stop : StopsAt reading items at) where
-  cut_whole : map lexeme items ≡ (map lexeme stop.front ++ lexeme stop.item ∷ []) ++ map lexeme stop.rest
-  cut_whole = ap (map lexeme) stop.whole ∙ map-append lexeme stop.front (stop.item ∷ stop.rest)
-      ∙ sym (append_assoc (map lexeme stop.front) (lexeme stop.item ∷ []) (map lexeme stop.rest))
-
+module _ (items : List Item) (text : Bytes) (lex : Lex (map lexeme items) text) (reading : Reading) (at : ℕ) (stop : StopsAt (run 64 Start []) reading items at) where
   cut_run : run 64 Start [] (map lexeme items) ≡ go_on 64 reading (map lexeme stop.rest)
-  cut_run = ap (λ (x : Lexemes). run 64 Start [] x) cut_whole
+  cut_run = ap (λ (x : Lexemes). run 64 Start [] x) (cut_whole items (run 64 Start []) reading at stop)
       ∙ run_append 64 Start [] (map lexeme stop.front ++ lexeme stop.item ∷ []) (map lexeme stop.rest)
       ∙ ap (λ (r : Reading). go_on 64 r (map lexeme stop.rest)) stop.stopped
 
   both_good : notes_good (map lexeme stop.front ++ lexeme stop.item ∷ []) ≡ true
   both_good = (and_parts (notes_good (map lexeme stop.front ++ lexeme stop.item ∷ [])) (notes_good (map lexeme stop.rest))
-      (sym (list_all-append note_good (map lexeme stop.front ++ lexeme stop.item ∷ []) (map lexeme stop.rest)) ∙ ap notes_good (sym cut_whole) ∙ lex_good (map lexeme items) text lex)).0
+      (sym (list_all-append note_good (map lexeme stop.front ++ lexeme stop.item ∷ []) (map lexeme stop.rest)) ∙ ap notes_good (sym (cut_whole items (run 64 Start []) reading at stop)) ∙ lex_good (map lexeme items) text lex)).0
 
   front_good : notes_good (map lexeme stop.front) ≡ true
   front_good = (and_parts (notes_good (map lexeme stop.front)) (notes_good (lexeme stop.item ∷ []))
       (sym (list_all-append note_good (map lexeme stop.front) (lexeme stop.item ∷ [])) ∙ both_good)).0
 
-  stands : Stands text (map placed stop.front) (placed stop.item) (map placed stop.rest) at
-  stands = record {
-    items = subst (λ (x : List Placed). LexAt (length text) x text) (ap (map placed) stop.whole ∙ map-append placed stop.front (stop.item ∷ stop.rest)) places;
-    place = stop.place;
-  }
-
-stray_at : (items : List Item) (text : Bytes) → Lex (map lexeme items) text → LexAt (length text) (map placed items) text → (at : ℕ) → StopsAt Strayed items at → Refuses (fault.Syntax at) text
+stray_at : (items : List Item) (text : Bytes) → Lex (map lexeme items) text → LexAt (length text) (map placed items) text → (at : ℕ) → StopsAt (run 64 Start []) Strayed items at → Refuses (fault.Syntax at) text
 stray_at items text lex places at stop =
-    let run_is : run 64 Start [] (map lexeme items) ≡ Strayed = cut_run items text lex places Strayed at stop in
-    let both = both_good items text lex places Strayed at stop in
-    let good = front_good items text lex places Strayed at stop in
+    let run_is : run 64 Start [] (map lexeme items) ≡ Strayed = cut_run items text lex Strayed at stop in
+    let both = both_good items text lex Strayed at stop in
+    let good = front_good items text lex Strayed at stop in
     let same = bare_placed stop.front in (
       (map lexeme items, lex),
       never (map lexeme items) text lex
@@ -84,28 +71,31 @@ stray_at items text lex places at stop =
         front = map placed stop.front;
         item = placed stop.item;
         rest = map placed stop.rest;
-        stands = stands items text lex places Strayed at stop;
-        goes = subst GoesOn (sym same) (taken_goes 64 (omega arith) (map lexeme stop.front) stop.taken.0 stop.taken.1 good stop.taken.2);
-        stops = λ goes. stray_stops 64 (map lexeme stop.front ++ lexeme stop.item ∷ []) both stop.stopped (subst (λ (x : Lexemes). GoesOn (x ++ lexeme stop.item ∷ [])) same goes);
+        stands = stop_stands items (run 64 Start []) Strayed at stop text places;
+        goes = subst BeginsDefinition (sym same)
+            (goes_front (map lexeme stop.front) (taken_goes 64 (omega arith) (map lexeme stop.front) stop.taken.0 stop.taken.1 good stop.taken.2));
+        stops = λ begins. stray_stops 64 (map lexeme stop.front ++ lexeme stop.item ∷ []) both stop.stopped
+            (front_goes (map lexeme stop.front ++ lexeme stop.item ∷ []) both (subst (λ (x : Lexemes). BeginsDefinition (x ++ lexeme stop.item ∷ [])) same begins));
         within = subst (λ (x : Lexemes). greatest_depth 0 x ≤ 64) (sym same) (front_depth 64 (map lexeme stop.front) stop.taken.0 stop.taken.1 good stop.taken.2);
       }),
     )
 
-deep_at : (items : List Item) (text : Bytes) → Lex (map lexeme items) text → LexAt (length text) (map placed items) text → (at : ℕ) → StopsAt TooFar items at → Refuses (fault.TooDeep at) text
+deep_at : (items : List Item) (text : Bytes) → Lex (map lexeme items) text → LexAt (length text) (map placed items) text → (at : ℕ) → StopsAt (run 64 Start []) TooFar items at → Refuses (fault.TooDeep at) text
 deep_at items text lex places at stop =
-    let both = both_good items text lex places TooFar at stop in
-    let good = front_good items text lex places TooFar at stop in
+    let both = both_good items text lex TooFar at stop in
+    let good = front_good items text lex TooFar at stop in
     let same = bare_placed stop.front in
     let deep = deep_stop 64 (map lexeme stop.front) (lexeme stop.item) stop.taken.0 stop.taken.1 both good stop.taken.2 stop.stopped in (
       (map lexeme items, lex),
-      too_deep (map lexeme items) text lex (cut_run items text lex places TooFar at stop),
+      too_deep (map lexeme items) text lex (cut_run items text lex TooFar at stop),
       record {
         front = map placed stop.front;
         item = placed stop.item;
         rest = map placed stop.rest;
-        stands = stands items text lex places TooFar at stop;
+        stands = stop_stands items (run 64 Start []) TooFar at stop text places;
         bracket = deep.bracket;
-        goes = subst (λ (x : Lexemes). GoesOn (x ++ lexeme stop.item ∷ [])) (sym same) deep.goes;
+        goes = subst (λ (x : Lexemes). BeginsDefinition (x ++ lexeme stop.item ∷ [])) (sym same)
+            (goes_front (map lexeme stop.front ++ lexeme stop.item ∷ []) deep.goes);
         within = subst (λ (x : Lexemes). greatest_depth 0 x ≤ 64) (sym same) (front_depth 64 (map lexeme stop.front) stop.taken.0 stop.taken.1 good stop.taken.2);
         beyond = subst (λ (x : Lexemes). depth_at_end 0 x ≡ 64) (sym same) deep.depth;
       },
@@ -122,7 +112,7 @@ missing_at items text lex at place ends =
         items = items;
         lex = lex;
         place = place;
-        goes = taken_goes 64 (omega arith) items ends.taken.0 ends.taken.1 good ends.taken.2;
+        goes = goes_front items (taken_goes 64 (omega arith) items ends.taken.0 ends.taken.1 good ends.taken.2);
         stops = none;
         within = front_depth 64 items ends.taken.0 ends.taken.1 good ends.taken.2;
       }),
@@ -150,14 +140,6 @@ named text tree (Err (fault.Name (name.TwiceError w))) spells within h = (tree, 
 named text tree (Err (fault.Name (name.TwiceField w))) spells within h = (tree, spells, within, h)
 named text tree (Err (fault.Name (name.UnknownType w))) spells within h = (tree, spells, within, h)
 named text tree (Err fault.Memory) spells within h = tt
-
-pub reported : (tree : Interface) (found : NameFault) → Reports found (first_fault tree) → Checks (Err (of_name found)) tree
-reported tree (name.TwiceType w) h = h
-reported tree (name.TwiceMethod w) h = h
-reported tree (name.TwiceError w) h = h
-reported tree (name.TwiceField w) h = h
-reported tree (name.UnknownType w) h = h
-reported tree name.Memory h = tt
 
 -- what an accepted text gives
 misnamed : (text : Bytes) (tree : Interface) (found : NameFault) → Misnames found text → Accepts text tree → ⊥

@@ -1,7 +1,6 @@
 -- the loop over the items
-use Rattle.std.proofs.Common.{◌≡◌, ℕ, ◌+◌, ◌<◌, ◌≤◌, List, [], ◌∷◌, ◌++◌, map, length, take, drop, take_all, get_or, Result, Ok, Err, refl, sym, ap, ◌∙◌, inr}
-use Rattle.std.proofs.lemmas.List.{take_more, drop_more, take-append-drop, map-append}
-use Rattle.idl_token.specs.Lex.{Bytes, Lexemes, lexeme}
+use Rattle.std.proofs.Common.{◌≡◌, ℕ, ◌+◌, ◌<◌, ◌≤◌, List, [], ◌∷◌, ◌++◌, map, length, take, take_all, get_or, Result, Ok, Err, sym, ap, ◌∙◌, inr}
+use Rattle.idl_token.specs.Lex.{Bytes, lexeme}
 use Rattle.idl_token.specs.declared.tokens.Item.{Item}
 use Rattle.idl_tree.specs.declared.trees.Interface.{Interface}
 use Rattle.idl_rules.specs.Reading.{Reading, Read, run}
@@ -11,6 +10,7 @@ use Rattle.idl_rules.proofs.Fronts.{go_on, run_append}
 use Rattle.idl_grammar.specs.declared.faults.IdlFault.{IdlFault}
 use Rattle.idl_grammar.specs.declared.faults.IdlFault.TheVariants as fault
 use Rattle.idl_grammar.specs.Follows.{StopsAt, Reads, Ends}
+use Rattle.idl_grammar.proofs.Stopping.{one_further, stops_with}
 
 module _ (items : List Item) (i : ℕ) (d : Item) (below : i < length items) (state : State) (waiting : List Bytes)
     (taken : run 64 Start [] (map lexeme (take i items)) ≡ Read state waiting) (reading : Reading) (next : run 64 state waiting (lexeme (get_or items i d) ∷ []) ≡ reading) where
@@ -19,18 +19,10 @@ module _ (items : List Item) (i : ℕ) (d : Item) (below : i < length items) (st
       ∙ ap (λ (r : Reading). go_on 64 r (lexeme (get_or items i d) ∷ [])) taken ∙ next
 
   pub taken_more : run 64 Start [] (map lexeme (take (i + 1) items)) ≡ reading
-  taken_more = ap (λ (x : Lexemes). run 64 Start [] x) (ap (map lexeme) (take_more items i d below) ∙ map-append lexeme (take i items) (get_or items i d ∷ [])) ∙ one_more
+  taken_more = one_further items i d below (run 64 Start []) reading one_more
 
-  pub stops_at : StopsAt reading items (get_or items i d).at
-  stops_at = record {
-    front = take i items;
-    item = get_or items i d;
-    rest = drop (i + 1) items;
-    whole = sym (take-append-drop i items) ∙ ap (λ (x : List Item). take i items ++ x) (drop_more items i d below);
-    place = refl;
-    taken = (state, waiting, taken);
-    stopped = one_more;
-  }
+  pub stops_at : StopsAt (run 64 Start []) reading items (get_or items i d).at
+  stops_at = stops_with items i d below (run 64 Start []) reading one_more (state, waiting, taken)
 
 pub ends : (items : List Item) (i end : ℕ) (state : State) (waiting : List Bytes) (result : Result Interface IdlFault) → length items ≤ i
     → run 64 Start [] (map lexeme (take i items)) ≡ Read state waiting → Ends result state waiting end → Reads result items end

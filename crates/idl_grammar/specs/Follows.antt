@@ -42,22 +42,22 @@ Continues (Err stop.Beyond) reading items = reading ≡ TooFar
 Continues (Err stop.Memory) reading items = Unit {0}
 
 -- the items in front were taken
-abbrev pub Takes : Lexemes → Type 0
-Takes front = (state : State) × (waiting : List Bytes) × (run 64 Start [] front ≡ Read state waiting)
+abbrev pub Takes : (Lexemes → Reading) → Lexemes → Type 0
+Takes read front = (state : State) × (waiting : List Bytes) × (read front ≡ Read state waiting)
 
 -- the reading stops with the item at that place
-pub record StopsAt (reading : Reading) (items : List Item) (at : ℕ) : Type 0 where
+pub record StopsAt (read : Lexemes → Reading) (reading : Reading) (items : List Item) (at : ℕ) : Type 0 where
   pub front : List Item
   pub item : Item
   pub rest : List Item
   pub whole : items ≡ front ++ item ∷ rest
   pub place : item.at ≡ at
-  pub taken : Takes (map lexeme front)
-  pub stopped : run 64 Start [] (map lexeme front ++ lexeme item ∷ []) ≡ reading
+  pub taken : Takes read (map lexeme front)
+  pub stopped : read (map lexeme front ++ lexeme item ∷ []) ≡ reading
 
 -- all items were taken, and something is missing
 pub record EndsIn (items : Lexemes) : Type 0 where
-  pub taken : Takes items
+  pub taken : Takes (run 64 Start []) items
   pub missing : (tree : Interface) → run 64 Start [] items ≡ whole tree → ⊥
 
 -- what the end of the items leaves
@@ -70,8 +70,8 @@ Ends (Err found) state waiting end = ⊥
 abbrev pub Reads : Result Interface IdlFault → List Item → ℕ → Type 0
 Reads (Ok tree) items end = run 64 Start [] (map lexeme items) ≡ whole tree
 Reads (Err (fault.Token token)) items end = ⊥
-Reads (Err (fault.Syntax at)) items end = StopsAt Strayed items at ⊎ ((at ≡ end) × EndsIn (map lexeme items))
-Reads (Err (fault.TooDeep at)) items end = StopsAt TooFar items at
+Reads (Err (fault.Syntax at)) items end = StopsAt (run 64 Start []) Strayed items at ⊎ ((at ≡ end) × EndsIn (map lexeme items))
+Reads (Err (fault.TooDeep at)) items end = StopsAt (run 64 Start []) TooFar items at
 Reads (Err (fault.Name name)) items end = ⊥
 Reads (Err fault.Memory) items end = Unit {0}
 

@@ -1,2 +1,4 @@
 pub mod Follows
+pub mod FollowsType
 pub mod Refuses
+pub mod RefusesType

@@ -9,7 +9,9 @@ use Rattle.idl_tree.specs.Faults.{first_fault}
 use Rattle.idl_tree.specs.declared.trees.Interface.{Interface}
 use Rattle.idl_tree.specs.declared.faults.NameFault.{NameFault}
 use Rattle.idl_tree.specs.declared.faults.NameFault.TheVariants as name
-use Rattle.idl_rules.specs.Spells.{Spells, Accepts, GoesOn, greatest_depth, depth_at_end}
+use Rattle.idl_rules.specs.Spells.{Spells, Accepts, greatest_depth, depth_at_end}
+use Rattle.idl_rules.specs.Grammar.{Front, definition}
+use Rattle.idl_fronts.specs.Bare.{without_notes}
 use Rattle.idl_grammar.specs.declared.faults.IdlFault.{IdlFault}
 use Rattle.idl_grammar.specs.declared.faults.IdlFault.TheVariants as fault
 
@@ -24,40 +26,44 @@ unplaced item = (item.0, item.2)
 abbrev pub bare : List Placed → Lexemes
 bare items = map unplaced items
 
+-- the items, notes left out, are a front of the grammar, brackets of any depth lawful
+abbrev pub BeginsDefinition : Lexemes → Type 0
+BeginsDefinition items = Front definition (without_notes items)
+
 -- the text's items are those in front, one at that place, and the rest
 pub record Stands (text : Bytes) (front : List Placed) (item : Placed) (rest : List Placed) (at : ℕ) : Type 0 where
   pub items : LexAt (length text) (front ++ item ∷ rest) text
   pub place : item.1 ≡ at
 
--- the item at the place is the first with which no definition goes on, brackets of any depth counted
--- as lawful, and no bracket before it is too deep
+-- the item at the place is the first with which the items so far are no front of the grammar, and no
+-- bracket before it is too deep
 pub record StrayAt (text : Bytes) (at : ℕ) : Type 0 where
   pub front : List Placed
   pub item : Placed
   pub rest : List Placed
   pub stands : Stands text front item rest at
-  pub goes : GoesOn (bare front)
-  pub stops : GoesOn (bare front ++ unplaced item ∷ []) → ⊥
+  pub goes : BeginsDefinition (bare front)
+  pub stops : BeginsDefinition (bare front ++ unplaced item ∷ []) → ⊥
   pub within : greatest_depth 0 (bare front) ≤ 64
 
--- at the end of the text something is missing, and no bracket is too deep
+-- all items are a front of the grammar, something is missing behind them, and no bracket is too deep
 pub record MissingAt (text : Bytes) (at : ℕ) : Type 0 where
   pub items : Lexemes
   pub lex : Lex items text
   pub place : at ≡ length text
-  pub goes : GoesOn items
+  pub goes : BeginsDefinition items
   pub stops : (tree : Interface) → Spells tree text → ⊥
   pub within : greatest_depth 0 items ≤ 64
 
--- the item at the place is the first `(` with which more than 64 are open, and definitions go on with
--- it, brackets of any depth counted as lawful
+-- the item at the place is the first `(` with which more than 64 are open, and the items up to it are a
+-- front of the grammar
 pub record DeepAt (text : Bytes) (at : ℕ) : Type 0 where
   pub front : List Placed
   pub item : Placed
   pub rest : List Placed
   pub stands : Stands text front item rest at
   pub bracket : unplaced item ≡ left_bracket
-  pub goes : GoesOn (bare front ++ unplaced item ∷ [])
+  pub goes : BeginsDefinition (bare front ++ unplaced item ∷ [])
   pub within : greatest_depth 0 (bare front) ≤ 64
   pub beyond : depth_at_end 0 (bare front) ≡ 64
 

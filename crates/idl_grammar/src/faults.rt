@@ -2,12 +2,13 @@ use idl_token::TokenFault;
 use idl_tree::NameFault;
 use link_port::Memory;
 
-/// Why a text is no definition. Offsets are in bytes.
+/// Why a text is no definition, or no type. Offsets are in bytes.
 #[derive(Drop)]
 pub enum IdlFault {
     /// The text cannot be cut into items.
     Token(TokenFault),
-    /// No definition goes on with the item at this offset; at the text's length, something is missing.
+    /// Nothing that is read goes on with the item at this offset; at the text's length, something is
+    /// missing.
     Syntax {
         /// The item's offset, or the text's length.
         at: u64,
@@ -37,7 +38,7 @@ impl From<Memory> for IdlFault {
 /// Why an item is not taken.
 #[derive(Drop)]
 pub enum Stop {
-    /// No definition goes on with it.
+    /// Nothing that is read goes on with it.
     Stray,
     /// It is a bracket that is too deep.
     Beyond,

@@ -1,4 +1,4 @@
-ghost use Rattle.std.specs.Prelude.{◌≡◌, ◌≤◌, [], ◌∷◌, IfOk, IsUtf8, All, map};
+ghost use Rattle.std.specs.Prelude.{◌≡◌, ◌≤◌, [], ◌∷◌, ◌++◌, IfOk, IsUtf8, All, map};
 ghost use Rattle.idl_token.specs.Lex.{Lexemes, lexeme};
 ghost use Rattle.idl_tree.specs.declared.trees.Interface.{Interface};
 ghost use Rattle.idl_rules.specs.Settle.{note_text};
@@ -15,7 +15,7 @@ use crate::steps::{is_slot, read_plain, read_slot};
 use crate::words::{text_of, trimmed};
 use idl_rules::State;
 use idl_token::{Item, ItemKind, TokenFault, items};
-use idl_tree::{Checked, Interface, NameFault};
+use idl_tree::{Checked, Interface, MOST_BRACKETS, NameFault};
 use link_port::{List, Memory, Text};
 use std::alloc::Global;
 
@@ -51,7 +51,8 @@ fn read_tree(alloc: Global, text: &[u8]) -> Result<Interface, IdlFault>
     }
 }
 
-fn token_fault(fault: TokenFault) -> IdlFault
+/// A fault of the items.
+pub fn token_fault(fault: TokenFault) -> IdlFault
     ensures { result ≡ of_token fault }
 {
     match fault {
@@ -73,7 +74,8 @@ fn check_names(alloc: Global, tree: Interface) -> Result<Checked, IdlFault>
     }
 }
 
-fn name_fault(fault: NameFault) -> IdlFault
+/// A fault of the names.
+pub fn name_fault(fault: NameFault) -> IdlFault
     ensures { result ≡ of_name fault }
 {
     match fault {
@@ -121,12 +123,12 @@ fn finished(progress: Progress, end: u64) -> Result<Interface, IdlFault>
 // Takes one more item.
 fn read_item(alloc: Global, progress: Progress, item: &Item<'_>) -> Result<Progress, Stop>
     requires { IsReadable item.now }
-    ensures { (items : Lexemes) → Continues result (run 64 progress.state progress.waiting (lexeme item.now ∷ items)) items }
+    ensures { (items : Lexemes) → Continues result
+        (run 64 progress.state progress.waiting (lexeme item.now ∷ items)) items }
 {
     let Progress { state, waiting } = progress;
     if item.kind == ItemKind::Note {
-        let mut waiting = waiting;
-        waiting.push(note_of(alloc, item.text)?)?;
+        let waiting = with_note(alloc, waiting, item.text)?;
         return Ok(Progress { state, waiting });
     }
     if is_slot(&state, item) {
@@ -136,9 +138,19 @@ fn read_item(alloc: Global, progress: Progress, item: &Item<'_>) -> Result<Progr
             waiting: List::new(alloc),
         })
     } else {
-        let state = read_plain(alloc, state, item)?;
+        let state = read_plain(alloc, state, item, MOST_BRACKETS)?;
         Ok(Progress { state, waiting })
     }
+}
+
+// The notes with one more behind them.
+fn with_note(alloc: Global, notes: List<Text>, spelling: &[u8]) -> Result<List<Text>, Memory>
+    requires { IsUtf8 (note_text spelling.now) }
+    ensures { IfOk result (λ more. more ≡ notes ++ note_text spelling.now ∷ []) }
+{
+    let mut notes = notes;
+    notes.push(note_of(alloc, spelling)?)?;
+    Ok(notes)
 }
 
 // The text of a note, which follows its `#`.

@@ -1,6 +1,7 @@
 ghost use Rattle.std.specs.Prelude.{◌≡◌, not, IfOk, IsUtf8};
 ghost use Rattle.idl_tree.specs.declared.trees.Prefix.TheVariants.{Maybe};
 ghost use Rattle.idl_rules.specs.declared.states.Spot.TheVariants as spot;
+ghost use Rattle.idl_rules.specs.declared.states.State.TheVariants.{Inside};
 ghost use Rattle.idl_token.specs.Lex.{lexeme};
 ghost use Rattle.idl_tree.specs.Names.{is_field_name};
 ghost use Rattle.idl_rules.specs.Settle.{is_slot};
@@ -12,8 +13,8 @@ use crate::words::{core_of, is_keyword, keyword_of, mark_of, text_of};
 use idl_rules::{Begun, Head, Keyword, Kind, Level, Mark, Spot, Stack, State};
 use idl_token::{Item, ItemKind};
 use idl_tree::{
-    Body, Core, Field, MOST_BRACKETS, Member, Named, Part, Prefix, TypeRef, is_field_name,
-    is_interface_name, is_member_name,
+    Body, Core, Field, Member, Named, Part, Prefix, TypeRef, is_field_name, is_interface_name,
+    is_member_name,
 };
 use link_port::{Box, List, Memory, Text};
 use std::alloc::Global;
@@ -50,15 +51,15 @@ pub fn read_slot(
     }
 }
 
-/// What a word or a mark that is no slot leads to.
-pub fn read_plain(alloc: Global, state: State, item: &Item<'_>) -> Result<State, Stop>
+/// What a word or a mark that is no slot leads to, where at most so many brackets may be open.
+pub fn read_plain(alloc: Global, state: State, item: &Item<'_>, most: u64) -> Result<State, Stop>
     requires { IsUtf8 item.now.text.now }
-    ensures { Follows result (plain_next 64 state (lexeme item.now)) }
+    ensures { Follows result (plain_next most state (lexeme item.now)) }
 {
     match item.kind {
         ItemKind::Word => read_word(alloc, state, text_of(item.text)),
         ItemKind::Mark => match mark_of(item.text) {
-            Some(mark) => read_mark(alloc, state, mark),
+            Some(mark) => read_mark(alloc, state, mark, most),
             None => Err(Stop::Stray),
         },
         ItemKind::Note => Err(Stop::Stray),
@@ -288,11 +289,11 @@ fn with_prefix(level: Level, prefix: Prefix) -> Result<Level, Memory>
     Ok(level)
 }
 
-// One more bracket.
-fn opened(head: Head, member: Begun, levels: Stack<Level>) -> Result<State, Stop>
-    ensures { Follows result (opened 64 head member levels) }
+// One more bracket, of at most so many.
+fn opened(head: Head, member: Begun, levels: Stack<Level>, most: u64) -> Result<State, Stop>
+    ensures { Follows result (opened most head member levels) }
 {
-    if levels.len() < MOST_BRACKETS {
+    if levels.len() < most {
         Ok(State::Inside {
             head,
             member,
@@ -371,54 +372,59 @@ fn read_type_word(alloc: Global, spot: Spot, word: &str) -> Result<Spot, Stop>
 }
 
 // A mark that is no slot.
-fn read_mark(alloc: Global, state: State, mark: Mark) -> Result<State, Stop>
-    ensures { Follows result (sign_next 64 state mark) }
+fn read_mark(alloc: Global, state: State, mark: Mark, most: u64) -> Result<State, Stop>
+    ensures { Follows result (sign_next most state mark) }
 {
     match state {
-        State::Ready { head, member } => {
-            if !is_open(mark) {
-                return Err(Stop::Stray);
-            }
-            opened(head, member, Stack::new(alloc))
+        State::Ready { head, member } if is_open(mark) => {
+            opened(head, member, Stack::new(alloc), most)
         }
         State::Middle {
             head,
             notes,
             name,
             input,
-        } => {
-            if !is_arrow(mark) {
-                return Err(Stop::Stray);
-            }
-            Ok(State::Ready {
-                head,
-                member: Begun {
-                    notes,
-                    name,
-                    kind: Kind::Output(input),
-                },
-            })
-        }
+        } if is_arrow(mark) => Ok(State::Ready {
+            head,
+            member: Begun {
+                notes,
+                name,
+                kind: Kind::Output(input),
+            },
+        }),
         State::Inside {
             head,
             member,
             levels,
             spot,
-        } => {
-            if is_open(mark) {
-                return open_inner(head, member, levels, spot);
-            }
-            let takes_enum = takes_enum(&member.kind, &levels);
-            let spot = read_inner_mark(alloc, spot, mark, takes_enum)?;
-            Ok(State::Inside {
-                head,
-                member,
-                levels,
-                spot,
-            })
-        }
+        } => read_mark_inside(alloc, head, member, levels, spot, mark, most),
         _ => Err(Stop::Stray),
     }
+}
+
+// A mark within brackets that is no slot.
+fn read_mark_inside(
+    alloc: Global,
+    head: Head,
+    member: Begun,
+    levels: Stack<Level>,
+    spot: Spot,
+    mark: Mark,
+    most: u64,
+) -> Result<State, Stop>
+    ensures { Follows result (sign_next most (Inside head member levels spot) mark) }
+{
+    if is_open(mark) {
+        return open_inner(head, member, levels, spot, most);
+    }
+    let takes_enum = takes_enum(&member.kind, &levels);
+    let spot = read_inner_mark(alloc, spot, mark, takes_enum)?;
+    Ok(State::Inside {
+        head,
+        member,
+        levels,
+        spot,
+    })
 }
 
 fn is_open(mark: Mark) -> bool
@@ -434,14 +440,20 @@ fn is_arrow(mark: Mark) -> bool
 }
 
 // A bracket within brackets.
-fn open_inner(head: Head, member: Begun, levels: Stack<Level>, spot: Spot) -> Result<State, Stop>
-    ensures { Follows result (open_inner 64 head member levels spot) }
+fn open_inner(
+    head: Head,
+    member: Begun,
+    levels: Stack<Level>,
+    spot: Spot,
+    most: u64,
+) -> Result<State, Stop>
+    ensures { Follows result (open_inner most head member levels spot) }
 {
     let mut levels = levels;
     match spot {
         Spot::Prefixes(level) => {
             levels.push(level)?;
-            opened(head, member, levels)
+            opened(head, member, levels, most)
         }
         _ => Err(Stop::Stray),
     }
@@ -480,7 +492,8 @@ fn read_inner_mark(alloc: Global, spot: Spot, mark: Mark, takes_enum: bool) -> R
 
 // No `?` stands directly before another.
 fn with_maybe(level: Level) -> Result<Spot, Stop>
-    ensures { Finds result (some_if (not (ends_with_maybe level.prefixes)) (spot.Prefixes (with_prefix level Maybe))) }
+    ensures { Finds result
+        (some_if (not (ends_with_maybe level.prefixes)) (spot.Prefixes (with_prefix level Maybe))) }
 {
     if ends_with_maybe(level.prefixes.as_slice()) {
         return Err(Stop::Stray);
