@@ -9,7 +9,7 @@ mod printing;
 mod rooms;
 mod writing;
 
-pub use laws::{canon_accepted, canon_spells};
+pub use laws::{canon_accepted, canon_formats_once, canon_spells};
 pub use printing::text;
 pub use writing::{PrintFault, write};
 

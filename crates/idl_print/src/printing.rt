@@ -84,7 +84,8 @@ fn fits_line(name: u64, part: &Part) -> bool
 // Appends a member without its notes, on one line or opened.
 fn push_part(out: &mut String, name: &str, part: &Part, is_flat: bool) -> Result<(), Memory>
     ensures { OnOk result (string_bytes out.new ≡ string_bytes out.old
-        ++ (if is_flat then (part_layout name.now part.now).flat else (part_layout name.now part.now).opened 0)) }
+        ++ (if is_flat then (part_layout name.now part.now).flat
+        else (part_layout name.now part.now).opened 0)) }
 {
     match part {
         Part::Shape(body) => {

@@ -1,4 +1,4 @@
-use crate::{text, write};
+use crate::{canon_accepted, canon_formats_once, canon_spells, text, write};
 use idl_tree::{Body, Checked, Core, Field, Interface, Member, Part, TypeRef, in_form};
 use link_port::{List, MemSink, Memory, Text};
 use std::alloc::Global;
@@ -26,6 +26,13 @@ fn prints_notes(rt: HostRuntime) {
         }
         Err(_) => assert!(rt; false, "out of memory"),
     }
+}
+
+#[test]
+fn laws_may_be_called(_rt: HostRuntime) {
+    canon_spells();
+    canon_accepted();
+    canon_formats_once();
 }
 
 fn sample(alloc: Global) -> Result<Interface, Memory> {
