@@ -10,7 +10,7 @@ use Rattle.idl_tree.specs.declared.trees.Field.{Field}
 use Rattle.idl_tree.specs.declared.trees.TypeRef.{TypeRef}
 use Rattle.idl_tree.specs.declared.trees.Body.{Body, out-Body}
 use Rattle.idl_tree.specs.declared.trees.Core.{Core, out-Core}
-use Rattle.idl_tree.specs.declared.trees.Body.TheOpen.{Body-F, Core-F}
+use Rattle.idl_tree.specs.declared.trees.Body.TheOpen.{Body-F}
 use Rattle.typed_value.specs.Bodies.{behind_maybes, body_of}
 use Rattle.typed_value.specs.Ints.{has_only_ints}
 use Rattle.typed_value.specs.OfType.{Fit, fits, fit_step, is_plain, is_foreign, items_fit, entries_fit, fields_fit, struct_fits, body_fits}

@@ -1,10 +1,7 @@
 -- A value of a type is what it shows, and nothing else.
-use Rattle.std.specs.Prelude.{◌≡◌, ◌↔◌, Bool, true, Some, None}
-use Rattle.std.specs.List.{list_any}
-use Rattle.idl_tree.specs.Names.{Bytes}
-use Rattle.idl_tree.specs.Faults.{Good, is_named, type_fault, body_fault}
+use Rattle.std.specs.Prelude.{◌≡◌, ◌↔◌, true, Some, None}
+use Rattle.idl_tree.specs.Faults.{Good, defines, type_fault, body_fault}
 use Rattle.idl_tree.specs.Form.{is_struct}
-use Rattle.idl_tree.specs.declared.spaces.Space.TheVariants.{Types}
 use Rattle.idl_tree.specs.declared.trees.Interface.{Interface}
 use Rattle.idl_tree.specs.declared.trees.Body.{Body}
 use Rattle.idl_tree.specs.declared.trees.TypeRef.{TypeRef}
@@ -14,13 +11,9 @@ use Rattle.typed_value.specs.Shows.{Shows, ShowsFields}
 use Rattle.typed_value.specs.Sizes.{is_whole}
 use Rattle.typed_value.specs.declared.vals.Val.{Val}
 
--- the name is that of a type of the interface
-abbrev pub is_defined : Interface → Bytes → Bool
-is_defined scope name = list_any (is_named Types name) scope.members
-
 -- the type's names are defined, and the names in each of its brackets are distinct
 abbrev pub HasNames : Interface → TypeRef → Type 0
-HasNames scope of = type_fault (is_defined scope) of ≡ None
+HasNames scope of = type_fault (defines scope) of ≡ None
 
 -- of the tree that shows a value of a type, that value reads and no other
 abbrev pub ReadsBackAlone : Type 0
@@ -31,7 +24,7 @@ ReadsBackAlone = (scope : Interface) (of : TypeRef) (v w : Val) → Good scope �
 -- the same of a struct and the object that shows its value
 abbrev pub StructReadsBackAlone : Type 0
 StructReadsBackAlone = (scope : Interface) (body : Body) (v w : Val) → Good scope
-    → body_fault (is_defined scope) body ≡ None
+    → body_fault (defines scope) body ≡ None
     → is_struct body ≡ true → is_of_body scope body v ≡ true
     → (ReadsBody scope body (ShowsFields scope body v) ≡ Some w) ↔ (v ≡ w)
 

@@ -1,67 +1,99 @@
 ghost use Rattle.std.specs.Prelude.{◌≡◌};
 ghost use Rattle.idl_tree.specs.Form.{is_struct};
 
-use crate::{Val, copy, levels, read, read_fields, same, show, show_fields, weight};
-use idl_tree::{Body, Checked, Core, Field, Interface, Member, Part, Prefix, TypeRef, in_form};
-use link_port::{List, Memory, Text, Value};
+use crate::{
+    FieldFault, Val, ValueFault, copy, levels, read, read_fields, same, show, show_fields, weight,
+};
+use idl_tree::{
+    Body, Checked, Core, Field, Interface, Member, Named, Part, Prefix, TypeRef, in_form,
+};
+use link_port::{Box, List, Memory, Text, Value};
 use serde_json::Value as Json;
 use std::alloc::Global;
 
-const NO_PREFIX: [Prefix; 0] = [];
+// What each JSON text is by a type or by the fields of a method: the value, its levels, its weight and
+// the text that shows it, or why nothing reads.
+const ROWS: [(&str, &str, &str); 27] = [
+    (
+        "Note",
+        r#"{"entry":{"amount":1,"name":"a","z":1.5},"tag":"t"}"#,
+        r#"Struct([Struct([Str(a), Int(1)]), Str(t)]) 2 322 {"entry":{"amount":1,"name":"a"},"tag":"t"}"#,
+    ),
+    (
+        "Note",
+        r#"{"entry":{"amount":"x","name":"a"}}"#,
+        "First(entry)",
+    ),
+    ("Note", r#"{"entry":{"amount":1,"name":"a"}}"#, "First(tag)"),
+    ("Note", r#"{"entry":{"amount":1},"tag":1}"#, "First(entry)"),
+    ("Add", r#"{"amount":9223372036854775808}"#, "First(amount)"),
+    ("Add", r#"{"amount":1.0}"#, "First(amount)"),
+    (
+        "Add",
+        r#"{"amount":-1}"#,
+        r#"Struct([Int(-1)]) 1 128 {"amount":-1}"#,
+    ),
+    (
+        "List",
+        r#"{"done":true}"#,
+        r#"Struct([Nothing, Bool(true)]) 1 192 {"done":true}"#,
+    ),
+    (
+        "List",
+        r#"{"done":true,"entry":null}"#,
+        r#"Struct([Nothing, Bool(true)]) 1 192 {"done":true}"#,
+    ),
+    ("List", r#"{"done":null}"#, "First(done)"),
+    (
+        "[]?int",
+        "[1,null]",
+        "Items([Int(1), Nothing]) 1 192 [1,null]",
+    ),
+    ("[]?int", r#"[1,"1"]"#, "Unfit"),
+    (
+        "[string]int",
+        r#"{"b":2,"a":1}"#,
+        r#"Map([(a, Int(1)), (b, Int(2))]) 1 194 {"a":1,"b":2}"#,
+    ),
+    (
+        "[string]int",
+        r#"{"a":1,"b":2,"a":3}"#,
+        r#"Map([(a, Int(3)), (b, Int(2))]) 1 194 {"a":3,"b":2}"#,
+    ),
+    (
+        "object",
+        r#"{"a":[1]}"#,
+        r#"Foreign({"a":[1]}) 2 193 {"a":[1]}"#,
+    ),
+    ("object", r#"{"a":[1.5]}"#, "Unfit"),
+    ("object", "[]", "Unfit"),
+    (
+        "int",
+        "9223372036854775807",
+        "Int(9223372036854775807) 0 64 9223372036854775807",
+    ),
+    (
+        "int",
+        "-9223372036854775808",
+        "Int(-9223372036854775808) 0 64 -9223372036854775808",
+    ),
+    ("int", "9223372036854775808", "Unfit"),
+    ("int", "-9223372036854775809", "Unfit"),
+    ("int", "1.0", "Unfit"),
+    ("int", "-0", "Unfit"),
+    ("(in, out)", r#""out""#, r#"Pick(1) 0 64 "out""#),
+    ("(in, out)", r#""up""#, "Unfit"),
+    ("Entry", r#"{"amount":1}"#, "Unfit"),
+    ("Entry", "null", "Unfit"),
+];
 
-const ARRAY_OF_MAYBE: [Prefix; 2] = [Prefix::Array, Prefix::Maybe];
-
-const MAP: [Prefix; 1] = [Prefix::Map];
-
-// Each JSON text is read by the type and shown again; an empty text stands for what does not read.
 #[test]
 fn reads_and_shows(rt: HostRuntime) {
-    let rows = [
-        (
-            &NO_PREFIX as &[Prefix],
-            "int",
-            "9223372036854775807",
-            "9223372036854775807",
-        ),
-        (&NO_PREFIX, "int", "-1", "-1"),
-        (&NO_PREFIX, "int", "9223372036854775808", ""),
-        (&NO_PREFIX, "int", "1.0", ""),
-        (&ARRAY_OF_MAYBE, "int", "[1,null]", "[1,null]"),
-        (&MAP, "int", "{\"b\":2,\"a\":1}", "{\"a\":1,\"b\":2}"),
-        (&NO_PREFIX, "object", "{\"a\":[1]}", "{\"a\":[1]}"),
-        (&NO_PREFIX, "object", "{\"a\":[1.5]}", ""),
-        (&NO_PREFIX, "object", "[]", ""),
-        (
-            &NO_PREFIX,
-            "Entry",
-            "{\"amount\":1,\"name\":\"a\",\"z\":1.5}",
-            "{\"amount\":1,\"name\":\"a\"}",
-        ),
-        (&NO_PREFIX, "Entry", "{\"amount\":1}", ""),
-    ];
-    for (prefixes, core, text, expected) in rows {
-        match shown(rt.alloc(), prefixes, core, text) {
-            Ok(Some(found)) => assert_eq!(rt; found.as_str(), expected),
-            Ok(None) => assert_eq!(rt; "", expected, "{text}"),
+    for (of, text, expected) in ROWS {
+        match told(rt.alloc(), of, text) {
+            Ok(told) => assert_eq!(rt; told.as_str(), expected, "{of} {text}"),
             Err(Memory) => assert!(rt; false, "out of memory"),
         }
-    }
-}
-
-// The input of the method `Note`: its fields, levels, weight and text.
-#[test]
-fn reads_fields(rt: HostRuntime) {
-    let text = "{\"entry\":{\"amount\":1,\"name\":\"a\",\"z\":1.5},\"tag\":\"t\"}";
-    match noted(rt.alloc(), text) {
-        Ok((levels, weight, shown)) => {
-            assert_eq!(rt; levels, 2);
-            assert_eq!(rt; weight, 322);
-            assert_eq!(rt;
-                shown.as_str(),
-                "{\"entry\":{\"amount\":1,\"name\":\"a\"},\"tag\":\"t\"}"
-            );
-        }
-        Err(Memory) => assert!(rt; false, "out of memory"),
     }
 }
 
@@ -78,36 +110,55 @@ fn copies(rt: HostRuntime) {
     }
 }
 
-fn shown(
-    alloc: Global,
-    prefixes: &[Prefix],
-    core: &str,
-    text: &str,
-) -> Result<Option<String>, Memory> {
-    let scope = scope(alloc)?;
-    let of = type_of(alloc, prefixes, core)?;
+fn told(alloc: Global, of: &str, text: &str) -> Result<String, Memory> {
+    let scope = count(alloc)?;
     let json = parsed(alloc, text)?;
-    match read(alloc, &scope, &of, &json) {
-        Ok(value) => Ok(Some(compact(alloc, &show(alloc, &scope, &of, &value)?)?)),
-        Err(crate::ValueFault::Unfit) => Ok(None),
-        Err(crate::ValueFault::Memory) => Err(Memory),
+    match scope.method(of) {
+        Some((_, output)) if of == "List" => told_fields(alloc, &scope, output, &json),
+        Some((input, _)) => told_fields(alloc, &scope, input, &json),
+        None => told_value(alloc, &scope, &type_of(alloc, of)?, &json),
     }
 }
 
-fn noted(alloc: Global, text: &str) -> Result<(u64, u64, String), Memory> {
-    let scope = scope(alloc)?;
-    let json = parsed(alloc, text)?;
-    let Some((input, _)) = scope.method("Note") else {
-        return Err(Memory);
-    };
-    if !(is_struct(input) && json.inner().is_object()) {
-        return Err(Memory);
+fn told_value(
+    alloc: Global,
+    scope: &Checked,
+    of: &TypeRef,
+    json: &Value,
+) -> Result<String, Memory> {
+    match read(alloc, scope, of, json) {
+        Ok(value) => {
+            let shown = show(alloc, scope, of, &value)?;
+            told_whole(alloc, &value, &shown)
+        }
+        Err(ValueFault::Unfit) => Ok(String::from_str(alloc, "Unfit")?),
+        Err(ValueFault::Memory) => Err(Memory),
     }
-    let Ok(value) = read_fields(alloc, &scope, input, &json) else {
-        return Err(Memory);
-    };
-    let shown = compact(alloc, &show_fields(alloc, &scope, input, &value)?)?;
-    Ok((levels(&value), weight(&value), shown))
+}
+
+fn told_fields(
+    alloc: Global,
+    scope: &Checked,
+    body: &Body,
+    json: &Value,
+) -> Result<String, Memory> {
+    if !(is_struct(body) && json.inner().is_object()) {
+        return Ok(String::from_str(alloc, "no struct, or no object")?);
+    }
+    match read_fields(alloc, scope, body, json) {
+        Ok(value) => {
+            let shown = show_fields(alloc, scope, body, &value)?;
+            told_whole(alloc, &value, &shown)
+        }
+        Err(FieldFault::First(name)) => Ok(format!(in alloc; "First({})", name.as_str())?),
+        Err(FieldFault::Memory) => Err(Memory),
+    }
+}
+
+fn told_whole(alloc: Global, value: &Val, shown: &Value) -> Result<String, Memory> {
+    let spelled = spelled(alloc, &copy(alloc, value)?)?;
+    let shown = shown.inner().to_string(alloc)?;
+    Ok(format!(in alloc; "{spelled} {} {} {shown}", levels(value), weight(value))?)
 }
 
 fn is_struct(body: &Body) -> bool
@@ -119,6 +170,53 @@ fn is_struct(body: &Body) -> bool
     }
 }
 
+#[cycle(spelled)]
+fn spelled(alloc: Global, value: &Val) -> Result<String, Memory> {
+    Ok(match value {
+        Val::Bool(value) => format!(in alloc; "Bool({value})")?,
+        Val::Int(value) => format!(in alloc; "Int({value})")?,
+        Val::Str(text) => format!(in alloc; "Str({})", text.as_str())?,
+        Val::Items(values) => format!(in alloc;
+            "Items([{}])",
+            spelled_all(alloc, values.as_slice())?
+        )?,
+        Val::Map(entries) => format!(in alloc;
+            "Map([{}])",
+            spelled_entries(alloc, entries.as_slice())?
+        )?,
+        Val::Struct(values) => format!(in alloc;
+            "Struct([{}])",
+            spelled_all(alloc, values.as_slice())?
+        )?,
+        Val::Pick(place) => format!(in alloc; "Pick({place})")?,
+        Val::Nothing => String::from_str(alloc, "Nothing")?,
+        Val::Foreign(tree) => format!(in alloc; "Foreign({})", tree.inner().to_string(alloc)?)?,
+    })
+}
+
+#[cycle(spelled)]
+fn spelled_all(alloc: Global, values: &[Val]) -> Result<String, Memory> {
+    let mut all = String::new(alloc);
+    for value in values {
+        let comma = if all.is_empty() { "" } else { ", " };
+        all.push_str(comma)?;
+        all.push_str(spelled(alloc, value)?.as_str())?;
+    }
+    Ok(all)
+}
+
+#[cycle(spelled)]
+fn spelled_entries(alloc: Global, entries: &[(Text, Val)]) -> Result<String, Memory> {
+    let mut all = String::new(alloc);
+    for entry in entries {
+        let comma = if all.is_empty() { "" } else { ", " };
+        let value = spelled(alloc, &entry.1)?;
+        let spelled = format!(in alloc; "{comma}({}, {value})", entry.0.as_str())?;
+        all.push_str(spelled.as_str())?;
+    }
+    Ok(all)
+}
+
 fn parsed(alloc: Global, text: &str) -> Result<Value, Memory> {
     match Json::from_str(alloc, text) {
         Ok(json) => Ok(Value::of(json)),
@@ -126,31 +224,42 @@ fn parsed(alloc: Global, text: &str) -> Result<Value, Memory> {
     }
 }
 
-fn compact(alloc: Global, json: &Value) -> Result<String, Memory> {
-    Ok(json.inner().to_string(alloc)?)
+// interface org.example.count
+//
+// type Entry (name: string, amount: int)
+//
+// method Add(amount: int) -> (total: int)
+//
+// method List() -> (entry: ?Entry, done: bool)
+//
+// method Note(entry: Entry, tag: string) -> ()
+//
+// method Echo() -> ()
+//
+// method Ping() -> ()
+//
+// error Negative (amount: int)
+fn count(alloc: Global) -> Result<Checked, Memory> {
+    let entry = body(alloc, &[("name", "string"), ("amount", "int")])?;
+    let add = method(alloc, &[("amount", "int")], &[("total", "int")])?;
+    let list = method(alloc, &[], &[("entry", "?Entry"), ("done", "bool")])?;
+    let note = method(alloc, &[("entry", "Entry"), ("tag", "string")], &[])?;
+    let negative = body(alloc, &[("amount", "int")])?;
+    let mut members = List::new(alloc);
+    members.push(member(alloc, "Entry", Part::Shape(entry))?)?;
+    members.push(member(alloc, "Add", add)?)?;
+    members.push(member(alloc, "List", list)?)?;
+    members.push(member(alloc, "Note", note)?)?;
+    members.push(member(alloc, "Echo", method(alloc, &[], &[])?)?)?;
+    members.push(member(alloc, "Ping", method(alloc, &[], &[])?)?)?;
+    members.push(member(alloc, "Negative", Part::Fault(negative))?)?;
+    checked(alloc, "org.example.count", members)
 }
 
-// type Entry (name: string, amount: int) and method Note(entry: Entry, tag: string) -> ()
-fn scope(alloc: Global) -> Result<Checked, Memory> {
-    let mut entry = List::new(alloc);
-    entry.push(field(alloc, "name", "string")?)?;
-    entry.push(field(alloc, "amount", "int")?)?;
-    let mut note = List::new(alloc);
-    note.push(field(alloc, "entry", "Entry")?)?;
-    note.push(field(alloc, "tag", "string")?)?;
-    let mut members = List::new(alloc);
-    members.push(member(alloc, "Entry", Part::Shape(body(alloc, entry)))?)?;
-    members.push(member(
-        alloc,
-        "Note",
-        Part::Method {
-            input: body(alloc, note),
-            output: body(alloc, List::new(alloc)),
-        },
-    )?)?;
+fn checked(alloc: Global, name: &str, members: List<Member>) -> Result<Checked, Memory> {
     let tree = Interface {
         notes: List::new(alloc),
-        name: Text::of(alloc, "org.example.count")?,
+        name: Text::of(alloc, name)?,
         members,
         tail: List::new(alloc),
     };
@@ -171,34 +280,66 @@ fn member(alloc: Global, name: &str, part: Part) -> Result<Member, Memory> {
     })
 }
 
-fn body(alloc: Global, fields: List<Field>) -> Body {
-    Body::Struct {
-        fields,
-        ending: List::new(alloc),
-    }
-}
-
-fn field(alloc: Global, name: &str, core: &str) -> Result<Field, Memory> {
-    Ok(Field {
-        notes: List::new(alloc),
-        name: Text::of(alloc, name)?,
-        of: type_of(alloc, &NO_PREFIX, core)?,
+fn method(alloc: Global, input: &[(&str, &str)], output: &[(&str, &str)]) -> Result<Part, Memory> {
+    Ok(Part::Method {
+        input: body(alloc, input)?,
+        output: body(alloc, output)?,
     })
 }
 
-fn type_of(alloc: Global, prefixes: &[Prefix], core: &str) -> Result<TypeRef, Memory> {
-    let mut list = List::new(alloc);
-    for prefix in prefixes {
-        list.push(*prefix)?;
+// The struct of these names and types.
+fn body(alloc: Global, named: &[(&str, &str)]) -> Result<Body, Memory> {
+    let mut fields = List::new(alloc);
+    for (name, of) in named {
+        fields.push(Field {
+            notes: List::new(alloc),
+            name: Text::of(alloc, name)?,
+            of: type_of(alloc, of)?,
+        })?;
     }
-    let core = match core {
+    Ok(Body::Struct {
+        fields,
+        ending: List::new(alloc),
+    })
+}
+
+fn type_of(alloc: Global, text: &str) -> Result<TypeRef, Memory> {
+    let mut prefixes = List::new(alloc);
+    let core = match text {
+        "bool" => Core::Bool,
         "int" => Core::Int,
         "string" => Core::Str,
         "object" => Core::Object,
+        "[]?int" => {
+            prefixes.push(Prefix::Array)?;
+            prefixes.push(Prefix::Maybe)?;
+            Core::Int
+        }
+        "[string]int" => {
+            prefixes.push(Prefix::Map)?;
+            Core::Int
+        }
+        "?Entry" => {
+            prefixes.push(Prefix::Maybe)?;
+            Core::Name(Text::of(alloc, "Entry")?)
+        }
+        "(in, out)" => Core::Inline(Box::new(alloc, in_or_out(alloc)?)?),
         name => Core::Name(Text::of(alloc, name)?),
     };
-    Ok(TypeRef {
-        prefixes: list,
-        core,
+    Ok(TypeRef { prefixes, core })
+}
+
+// The enum of these two names.
+fn in_or_out(alloc: Global) -> Result<Body, Memory> {
+    let mut names = List::new(alloc);
+    for name in ["in", "out"] {
+        names.push(Named {
+            notes: List::new(alloc),
+            name: Text::of(alloc, name)?,
+        })?;
+    }
+    Ok(Body::Enum {
+        names,
+        ending: List::new(alloc),
     })
 }

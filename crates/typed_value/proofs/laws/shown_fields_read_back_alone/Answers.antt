@@ -1,9 +1,9 @@
 use Rattle.std.proofs.Common.{◌≡◌, Some, sym, ap, ◌∙◌}
-use Rattle.typed_value.specs.Laws.{is_defined}
+use Rattle.idl_tree.specs.Faults.{defines}
 use Rattle.typed_value.proofs.StructBack.{struct_back}
 use Rattle.typed_value.proofs.laws.shown_fields_read_back_alone.Goals as goal
 
 pub returns : goal.returns
 returns c = λ scope body v w good names h fit.
-    let back = struct_back scope body (is_defined scope) v good names h fit in
+    let back = struct_back scope body (defines scope) v good names h fit in
     (λ reads. (let same : Some v ≡ Some w = sym back ∙ reads in cc), λ same. back ∙ ap Some same)

@@ -1,10 +1,10 @@
 use Rattle.std.proofs.Common.{◌≡◌, Some, sym, ap, ◌∙◌}
-use Rattle.typed_value.specs.Laws.{is_defined}
+use Rattle.idl_tree.specs.Faults.{defines}
 use Rattle.typed_value.proofs.GoodBodies.{type_core}
 use Rattle.typed_value.proofs.ReadBack.{shown_back}
 use Rattle.typed_value.proofs.laws.shown_values_read_back_alone.Goals as goal
 
 pub returns : goal.returns
 returns c = λ scope of v w good names fit.
-    let back = shown_back scope (is_defined scope) good v of.prefixes of.core (sym (type_core (is_defined scope) of) ∙ names) fit in
+    let back = shown_back scope (defines scope) good v of.prefixes of.core (sym (type_core (defines scope) of) ∙ names) fit in
     (λ reads. (let same : Some v ≡ Some w = sym back ∙ reads in cc), λ same. back ∙ ap Some same)
