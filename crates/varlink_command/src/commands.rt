@@ -20,8 +20,9 @@ use std::alloc::Global;
 ///
 /// `session` serves the calls that come from the input, and writes the replies to the output.
 /// `check PATH` prints `ok` and the name of the definition in that file, and `format PATH` its
-/// canonical text. All other words are bad words, status 1. A fault is told by a line in the sink of faults; that the
-/// line cannot be written changes nothing. The call always returns, and takes at most 2^40 bytes.
+/// canonical text. All other words are bad words, status 1. A fault is told by a line in the sink of
+/// faults; that the line cannot be written changes nothing. The call always returns, and takes at most
+/// 2^40 bytes.
 pub fn offline<S: Source, O: Sink, E: Sink, F: Files>(
     alloc: Global,
     words: &[Text],
@@ -41,7 +42,8 @@ pub fn offline<S: Source, O: Sink, E: Sink, F: Files>(
         (record { bytes = E.written world.new.faults; faults = E.write_faults world.new.faults })
         result.0 }
 
-    ensures check { command words.now ≡ Some Command.Check → RunsDefinition Showing.Name (path_word words.now)
+    ensures check { command words.now ≡ Some Command.Check
+        → RunsDefinition Showing.Name (path_word words.now)
         (F.holds world.old.files (path_word words.now))
         (F.faults world.old.files) (F.faults world.new.files)
         (record { bytes = O.written world.old.output; faults = O.write_faults world.old.output })
@@ -50,7 +52,8 @@ pub fn offline<S: Source, O: Sink, E: Sink, F: Files>(
         (record { bytes = E.written world.new.faults; faults = E.write_faults world.new.faults })
         result.0 }
 
-    ensures format { command words.now ≡ Some Command.Format → RunsDefinition Showing.Text (path_word words.now)
+    ensures format { command words.now ≡ Some Command.Format
+        → RunsDefinition Showing.Text (path_word words.now)
         (F.holds world.old.files (path_word words.now))
         (F.faults world.old.files) (F.faults world.new.files)
         (record { bytes = O.written world.old.output; faults = O.write_faults world.old.output })

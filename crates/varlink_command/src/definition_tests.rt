@@ -53,85 +53,114 @@ fn assert_runs(
     Ok(())
 }
 
-#[test]
-fn definitions_are_printed(rt: HostRuntime) -> Result<(), Fail> {
-    let rows = [
-        ("interface a.b", "interface a.b\n"),
-        (
-            "interface a.b type T (type: int)",
-            "interface a.b\n\ntype T (type: int)\n",
-        ),
-        (
-            "interface a.b\ttype T(x:[]?int)",
-            "interface a.b\n\ntype T (x: []?int)\n",
-        ),
-        (
-            "# top\r\ninterface a.b # one\r\nmethod # two\r\nM(x: int # three\r\n) -> () # four\r\n",
-            "# top\ninterface a.b\n\n# one\nmethod M(\n  # two\n  x: int\n  # three\n) -> ()\n\n# four\n",
-        ),
-        (
-            "interface a.b type E (a, # x\nb)",
-            "interface a.b\n\ntype E (\n  a,\n  # x\n  b\n)\n",
-        ),
-        (
-            "interface a.b method Long(first: string, second: (inner: int, other: []string), \
-third: ?[string]int) -> ()",
-            "interface a.b\n\nmethod Long(\n  first: string,\n  second: (inner: int, other: \
-[]string),\n  third: ?[string]int\n) -> ()\n",
-        ),
-    ];
-    for (text, canonical) in rows {
-        assert_runs(&rt, rt.alloc(), "format", text, canonical, "")?;
-        assert_runs(&rt, rt.alloc(), "format", canonical, canonical, "")?;
-        assert_runs(&rt, rt.alloc(), "check", text, "ok a.b\n", "")?;
-    }
-    assert_runs(
-        &rt,
-        rt.alloc(),
-        "check",
-        "interface a.b method M(x: float) -> ()",
-        "ok a.b\n",
+/// Texts, each with its canonical text where it is a definition, and else with the refusal that is told.
+const ROWS: [(&str, &str, &str); 18] = [
+    ("interface a.b", "interface a.b\n", ""),
+    (
+        "interface a.b type T (type: int)",
+        "interface a.b\n\ntype T (type: int)\n",
         "",
-    )
+    ),
+    (
+        "interface a.b\ttype T(x:[]?int)",
+        "interface a.b\n\ntype T (x: []?int)\n",
+        "",
+    ),
+    (
+        "# top\r\ninterface a.b # one\r\nmethod # two\r\nM(x: int # three\r\n) -> () # four\r\n",
+        "# top\ninterface a.b\n\n# one\nmethod M(\n  # two\n  x: int\n  # three\n) -> ()\n\n# four\n",
+        "",
+    ),
+    (
+        "interface a.b type E (a, # x\nb)",
+        "interface a.b\n\ntype E (\n  a,\n  # x\n  b\n)\n",
+        "",
+    ),
+    (
+        "interface a.b method Long(first: string, second: (inner: int, other: []string), \
+third: ?[string]int) -> ()",
+        "interface a.b\n\nmethod Long(\n  first: string,\n  second: (inner: int, other: \
+[]string),\n  third: ?[string]int\n) -> ()\n",
+        "",
+    ),
+    (
+        "interface a.b method M(x: float) -> ()",
+        "interface a.b\n\nmethod M(x: float) -> ()\n",
+        "",
+    ),
+    ("", "", "syntax at 0"),
+    ("interface a.b type T (x: ??int)", "", "syntax at 26"),
+    ("interface a.b type T (x: int,)", "", "syntax at 29"),
+    ("interface a.b # x\ntype T (", "", "syntax at 26"),
+    ("interface a.b error E (a, b)", "", "syntax at 24"),
+    ("interface a.b type T (x: A)", "", "type A is not defined"),
+    (
+        "interface a.b type A () type A ()",
+        "",
+        "type A stands twice",
+    ),
+    (
+        "interface a.b method A() -> () method A() -> ()",
+        "",
+        "method A stands twice",
+    ),
+    (
+        "interface a.b error A () error A ()",
+        "",
+        "error A stands twice",
+    ),
+    (
+        "interface a.b type A (x: int, x: int)",
+        "",
+        "name x stands twice",
+    ),
+    ("interface a.b !", "", "bad byte at 14"),
+];
+
+fn assert_row(
+    rt: &impl Abort,
+    alloc: Global,
+    text: &str,
+    canonical: &str,
+    refusal: &str,
+) -> Result<(), Fail> {
+    if refusal.is_empty() {
+        assert_runs(rt, alloc, "format", text, canonical, "")?;
+        assert_runs(rt, alloc, "format", canonical, canonical, "")?;
+        return assert_runs(rt, alloc, "check", text, "ok a.b\n", "");
+    }
+    let line = format!(in alloc; "varlink: {refusal}\n")?;
+    assert_runs(rt, alloc, "check", text, "", &line)?;
+    assert_runs(rt, alloc, "format", text, "", &line)
 }
 
 #[test]
-fn the_standard_interfaces_are_canonical(rt: HostRuntime) -> Result<(), Fail> {
-    for text in [SERVICE_TEXT, RESOLVER_TEXT] {
-        assert_runs(&rt, rt.alloc(), "format", text, text, "")?;
+fn each_text_is_printed_or_refused(rt: HostRuntime) -> Result<(), Fail> {
+    let alloc = rt.alloc();
+    for (text, canonical, refusal) in ROWS {
+        assert_row(&rt, alloc, text, canonical, refusal)?;
     }
-    Ok(())
+    let flat = error_of_line(alloc, 65, "error E (", ")")?;
+    assert_row(&rt, alloc, &flat, &flat, "")?;
+    let longer = error_of_line(alloc, 66, "error E (", ")")?;
+    let opened = error_of_line(alloc, 66, "error E (\n  ", "\n)")?;
+    assert_row(&rt, alloc, &longer, &opened, "")?;
+    let within = nested(alloc, 64)?;
+    assert_runs(&rt, alloc, "check", &within, "ok a.b\n", "")?;
+    let deep = nested(alloc, 65)?;
+    assert_row(&rt, alloc, &deep, "", "too deep at 277")
 }
 
-#[test]
-fn refusals_are_told(rt: HostRuntime) -> Result<(), Fail> {
-    let rows = [
-        ("", "syntax at 0"),
-        ("interface a.b type T (x: ??int)", "syntax at 26"),
-        ("interface a.b type T (x: int,)", "syntax at 29"),
-        ("interface a.b type T (x: A)", "type A is not defined"),
-        ("interface a.b type A () type A ()", "type A stands twice"),
-        (
-            "interface a.b type A (x: int, x: int)",
-            "name x stands twice",
-        ),
-        ("interface a.b !", "bad byte at 14"),
-    ];
-    for (text, refusal) in rows {
-        let line = format!(in rt.alloc(); "varlink: {refusal}\n")?;
-        assert_runs(&rt, rt.alloc(), "check", text, "", &line)?;
-        assert_runs(&rt, rt.alloc(), "format", text, "", &line)?;
+/// An error with one field, whose name has so many letters.
+fn error_of_line(alloc: Global, letters: u64, before: &str, behind: &str) -> Result<String, Fail> {
+    let mut text = format!(in alloc; "interface a.b\n\n{before}")?;
+    for _ in 0..letters {
+        text.push_str("a")?;
     }
-    let left = run(rt.alloc(), "check", "e", "")?;
-    assert_eq!(rt; left.status, Status(5));
-    assert_eq!(rt;
-        left.line.as_slice(),
-        b"varlink: cannot read e\n".as_slice()
-    );
-    let left = run(rt.alloc(), "check", "--d", "")?;
-    assert_eq!(rt; left.status, Status(1));
-    assert_eq!(rt; left.line.as_slice(), b"varlink: bad words\n".as_slice());
-    Ok(())
+    text.push_str(": int")?;
+    text.push_str(behind)?;
+    text.push_str("\n")?;
+    Ok(text)
 }
 
 /// A definition whose brackets are so deep.
@@ -148,27 +177,23 @@ fn nested(alloc: Global, depth: u64) -> Result<String, Fail> {
 }
 
 #[test]
-fn the_bounds_of_depth_and_of_a_line(rt: HostRuntime) -> Result<(), Fail> {
-    let alloc = rt.alloc();
-    let deep = nested(alloc, 65)?;
-    assert_runs(
-        &rt,
-        rt.alloc(),
-        "check",
-        &deep,
-        "",
-        "varlink: too deep at 277\n",
-    )?;
-    let within = nested(alloc, 64)?;
-    assert_runs(&rt, rt.alloc(), "check", &within, "ok a.b\n", "")?;
-    let mut name = String::new(alloc);
-    for _ in 0..65 {
-        name.push_str("a")?;
+fn the_standard_interfaces_are_canonical(rt: HostRuntime) -> Result<(), Fail> {
+    for text in [SERVICE_TEXT, RESOLVER_TEXT] {
+        assert_runs(&rt, rt.alloc(), "format", text, text, "")?;
     }
-    let flat = format!(in alloc; "interface a.b\n\nerror E ({name}: int)\n")?;
-    assert_runs(&rt, rt.alloc(), "format", &flat, &flat, "")?;
-    name.push_str("a")?;
-    let longer = format!(in alloc; "interface a.b error E ({name}: int)")?;
-    let opened = format!(in alloc; "interface a.b\n\nerror E (\n  {name}: int\n)\n")?;
-    assert_runs(&rt, rt.alloc(), "format", &longer, &opened, "")
+    Ok(())
+}
+
+#[test]
+fn what_is_no_file_or_no_path_is_told(rt: HostRuntime) -> Result<(), Fail> {
+    let left = run(rt.alloc(), "check", "e", "")?;
+    assert_eq!(rt; left.status, Status(5));
+    assert_eq!(rt;
+        left.line.as_slice(),
+        b"varlink: cannot read e\n".as_slice()
+    );
+    let left = run(rt.alloc(), "check", "--d", "")?;
+    assert_eq!(rt; left.status, Status(1));
+    assert_eq!(rt; left.line.as_slice(), b"varlink: bad words\n".as_slice());
+    Ok(())
 }

@@ -56,7 +56,8 @@ pub fn read_definition<F: Files>(
 /// Tells why a definition was not read, and gives the status.
 pub fn tell_unread<E: Sink>(faults: &mut E, path: &str, why: &Unread) -> Status
     ensures status { result.0 ≡ unread_status why.now }
-    ensures line { TellsLine (line_of (unread_text path.now why.now)) (E.written faults.old) (E.written faults.new)
+    ensures line { TellsLine (line_of (unread_text path.now why.now))
+        (E.written faults.old) (E.written faults.new)
         (E.write_faults faults.old) (E.write_faults faults.new) }
     ensures other { IsAsBefore (E.left faults.old) (E.left faults.new)
         (E.read_faults faults.old) (E.read_faults faults.new) }

@@ -65,38 +65,44 @@ fn cuts(alloc: Global, sizes: &[u64], count: usize) -> Result<List<u64>, Memory>
     Ok(cuts)
 }
 
+const MISSING: &str = "{\"error\":\"org.varlink.service.MethodNotImplemented\",\"parameters\":\
+{\"method\":\"Ping\"}}\0";
+
+const NOT_DESCRIBED: &str =
+    "{\"error\":\"org.varlink.service.MethodNotImplemented\",\"parameters\":\
+{\"method\":\"org.varlink.service.GetInterfaceDescription\"}}\0";
+
+const NO_CALL: &str = "varlink: message 0 is no call\n";
+
+/// Inputs, each with its output, the status and the line of the fault.
+const ROWS: [(&str, &str, u8, &str); 11] = [
+    ("", "", 0, ""),
+    (GET_INFO, INFO, 0, ""),
+    ("{\"method\":\"Ping\"}\0", MISSING, 0, ""),
+    (
+        "{\"method\":\"org.varlink.service.GetInterfaceDescription\"}\0",
+        NOT_DESCRIBED,
+        0,
+        "",
+    ),
+    ("{\"method\":\"Ping\",\"oneway\":true}\0", "", 0, ""),
+    ("{\"method\":\"Ping\",\"more\":null}\0", MISSING, 0, ""),
+    ("\0", "", 3, NO_CALL),
+    ("{\"method\":1}\0", "", 3, NO_CALL),
+    ("{\"method\":\"a\",\"oneway\":1}\0", "", 3, NO_CALL),
+    ("{\"method\":\"a\",\"parameters\":[]}\0", "", 3, NO_CALL),
+    (
+        "{\"method\":\"org.varlink.service.GetInfo\"}",
+        "",
+        3,
+        "varlink: cut after 40 bytes\n",
+    ),
+];
+
 #[test]
 fn each_input_has_its_output_status_and_line(rt: HostRuntime) -> Result<(), Fail> {
     let alloc = rt.alloc();
-    let missing = "{\"error\":\"org.varlink.service.MethodNotImplemented\",\"parameters\":\
-{\"method\":\"Ping\"}}\0";
-    let described = "{\"error\":\"org.varlink.service.MethodNotImplemented\",\"parameters\":\
-{\"method\":\"org.varlink.service.GetInterfaceDescription\"}}\0";
-    let no_call = "varlink: message 0 is no call\n";
-    let rows = [
-        ("", "", 0, ""),
-        (GET_INFO, INFO, 0, ""),
-        ("{\"method\":\"Ping\"}\0", missing, 0, ""),
-        (
-            "{\"method\":\"org.varlink.service.GetInterfaceDescription\"}\0",
-            described,
-            0,
-            "",
-        ),
-        ("{\"method\":\"Ping\",\"oneway\":true}\0", "", 0, ""),
-        ("{\"method\":\"Ping\",\"more\":null}\0", missing, 0, ""),
-        ("\0", "", 3, no_call),
-        ("{\"method\":1}\0", "", 3, no_call),
-        ("{\"method\":\"a\",\"oneway\":1}\0", "", 3, no_call),
-        ("{\"method\":\"a\",\"parameters\":[]}\0", "", 3, no_call),
-        (
-            "{\"method\":\"org.varlink.service.GetInfo\"}",
-            "",
-            3,
-            "varlink: cut after 40 bytes\n",
-        ),
-    ];
-    for (input, output, status, line) in rows {
+    for (input, output, status, line) in ROWS {
         let left = run(alloc, session(alloc, input.as_bytes())?)?;
         assert_eq!(rt;
             left.output.as_slice(),
@@ -106,8 +112,14 @@ fn each_input_has_its_output_status_and_line(rt: HostRuntime) -> Result<(), Fail
         assert_eq!(rt; left.status, Status(status), "after {input:?}");
         assert_eq!(rt; left.line.as_slice(), line.as_bytes(), "after {input:?}");
     }
+    Ok(())
+}
+
+#[test]
+fn a_message_that_is_no_call_ends_the_session(rt: HostRuntime) -> Result<(), Fail> {
+    let alloc = rt.alloc();
     let left = run(alloc, session(alloc, b"\xff\0")?)?;
-    assert_eq!(rt; left.line.as_slice(), no_call.as_bytes());
+    assert_eq!(rt; left.line.as_slice(), NO_CALL.as_bytes());
     let input = [GET_INFO.as_bytes(), b"[]\0", GET_INFO.as_bytes()].concat(alloc)?;
     let left = run(alloc, session(alloc, &input)?)?;
     assert_eq!(rt; left.output.as_slice(), INFO.as_bytes());
