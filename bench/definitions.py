@@ -32,6 +32,10 @@ def notes(n):
     return "#\n" * n + "interface a.b\n"
 
 
+def one_note(n):
+    return "interface a.b #" + "x" * n + "\n"
+
+
 def notes_before_a_slot(n):
     return "interface a.b\ntype T (\n" + "# x\n" * n + "a: int)\n"
 
@@ -45,7 +49,7 @@ def prefixes(n):
 
 
 SHAPES = [
-    (methods, 10_000), (types, 10_000), (fields, 20_000), (notes, 500_000), (notes_before_a_slot, 30_000),
+    (methods, 10_000), (types, 10_000), (fields, 20_000), (notes, 500_000), (one_note, 1_048_000), (notes_before_a_slot, 30_000),
     (brackets, 260_000), (prefixes, 520_000),
 ]
 

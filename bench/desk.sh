@@ -4,26 +4,9 @@
 # Usage: bench/desk.sh [FOLDER]     (default: a temporary one, removed at the end)
 set -eu
 top=$(cd "$(dirname "$0")/.." && pwd)
-work=${1:-$(mktemp -d)}
-[ $# -gt 0 ] || trap 'rm -rf "$work"' EXIT
-mkdir -p "$work/crates/desk_bench/src" "$work/crates/desk_bench/specs" "$work/crates/desk_bench/proofs/ask_many"
-cd "$work"
-[ -d .git ] || git init -q .
-for crate in link_port turn_desk; do
-    rm -rf "crates/$crate"
-    mkdir -p "crates/$crate"
-    for part in src specs proofs; do
-        [ ! -d "$top/crates/$crate/$part" ] || cp -r "$top/crates/$crate/$part" "crates/$crate/"
-    done
-done
-cp "$top/HANDLES" .
-{
-    grep -E '^(link_port|turn_desk)\b' "$top/crates.txt"
-    echo 'desk_bench: turn_desk link_port'
-} > crates.txt
-cd crates/desk_bench
-echo > specs/Lib.antt
-echo > proofs/Lib.antt
+. "$top/bench/lay-out.sh"
+lay_out "${1:-}" desk_bench 'link_port turn_desk' 'turn_desk link_port'
+mkdir -p proofs/ask_many
 cat > proofs/ask_many/Invariants.antt <<'PROOF'
 use Rattle.std.proofs.Common.{◌≡◌}
 use Rattle.turn_desk.specs.Passes.{IsOf, all_asks}
@@ -91,7 +74,13 @@ fn ask_many<R: Wait>(rt: &R, desk: &Desk<Total>, mut pass: Pass<Total>, times: u
     pass
 }
 
-fn ask_in_two<R: Threads + Wait + Sync>(rt: &R, desk: &Desk<Total>, one: Pass<Total>, two: Pass<Total>, times: u64) -> (Pass<Total>, Pass<Total>)
+fn ask_in_two<R: Threads + Wait + Sync>(
+    rt: &R,
+    desk: &Desk<Total>,
+    one: Pass<Total>,
+    two: Pass<Total>,
+    times: u64,
+) -> (Pass<Total>, Pass<Total>)
     requires { IsOf desk.now one × IsOf desk.now two }
     ensures desk { IsOf desk.now result.0 × IsOf desk.now result.1 }
     ensures asks { (all_asks result.0 ≡ all_asks one) × (all_asks result.1 ≡ all_asks two) }
@@ -121,8 +110,8 @@ fn by_one<R: Threads + Wait + Clock + Print + Sync>(rt: &R, alloc: Global) -> io
     let pass = ask_many(rt, &desk, pass, 1_000_000);
     let spent = start.elapsed(rt)?.as_nanos();
     let (total, history) = desk.close(pass);
-    println!(rt; "1 thread: {} asks a second, total {}, {} entries", per_second(1_000_000, spent), total.sum, history.len())?;
-    Ok(())
+    let asks = per_second(1_000_000, spent);
+    println!(rt; "1 thread: {asks} asks a second, total {}, {} entries", total.sum, history.len())
 }
 
 fn by_two<R: Threads + Wait + Clock + Print + Sync>(rt: &R, alloc: Global) -> io::Result<()> {
@@ -135,8 +124,8 @@ fn by_two<R: Threads + Wait + Clock + Print + Sync>(rt: &R, alloc: Global) -> io
     let spent = start.elapsed(rt)?.as_nanos();
     desk.join(&mut pass, other);
     let (total, history) = desk.close(pass);
-    println!(rt; "2 threads: {} asks a second, total {}, {} entries", per_second(1_000_000, spent), total.sum, history.len())?;
-    Ok(())
+    let asks = per_second(1_000_000, spent);
+    println!(rt; "2 threads: {asks} asks a second, total {}, {} entries", total.sum, history.len())
 }
 
 fn by_four<R: Threads + Wait + Clock + Print + Sync>(rt: &R, alloc: Global) -> io::Result<()> {
@@ -152,11 +141,13 @@ fn by_four<R: Threads + Wait + Clock + Print + Sync>(rt: &R, alloc: Global) -> i
         rt,
         || -> (Pass<Total>, Pass<Total>)
             requires { IsOf shared.now pass × IsOf shared.now two }
-            ensures { IsOf shared.entry.now result.0 × IsOf shared.entry.now result.1 × (all_asks result.0 ≡ all_asks pass) × (all_asks result.1 ≡ all_asks two) }
+            ensures { IsOf shared.entry.now result.0 × IsOf shared.entry.now result.1
+                × (all_asks result.0 ≡ all_asks pass) × (all_asks result.1 ≡ all_asks two) }
         { ask_in_two(rt, shared, pass, two, 250_000) },
         || -> (Pass<Total>, Pass<Total>)
             requires { IsOf shared.now three × IsOf shared.now four }
-            ensures { IsOf shared.entry.now result.0 × IsOf shared.entry.now result.1 × (all_asks result.0 ≡ all_asks three) × (all_asks result.1 ≡ all_asks four) }
+            ensures { IsOf shared.entry.now result.0 × IsOf shared.entry.now result.1
+                × (all_asks result.0 ≡ all_asks three) × (all_asks result.1 ≡ all_asks four) }
         { ask_in_two(rt, shared, three, four, 250_000) },
     );
     let spent = start.elapsed(rt)?.as_nanos();
@@ -164,8 +155,8 @@ fn by_four<R: Threads + Wait + Clock + Print + Sync>(rt: &R, alloc: Global) -> i
     desk.join(&mut pass, three);
     desk.join(&mut pass, four);
     let (total, history) = desk.close(pass);
-    println!(rt; "4 threads: {} asks a second, total {}, {} entries", per_second(1_000_000, spent), total.sum, history.len())?;
-    Ok(())
+    let asks = per_second(1_000_000, spent);
+    println!(rt; "4 threads: {asks} asks a second, total {}, {} entries", total.sum, history.len())
 }
 
 fn long_history<R: Threads + Wait + Clock + Print + Sync>(rt: &R, alloc: Global) -> io::Result<()> {
@@ -181,8 +172,9 @@ fn long_history<R: Threads + Wait + Clock + Print + Sync>(rt: &R, alloc: Global)
     let pass = ask_many(rt, &desk, pass, 10_000);
     let long = start.elapsed(rt)?.as_nanos();
     let (total, history) = desk.close(pass);
-    println!(rt; "after 10^3 entries: {} asks a second; after 10^6: {}; total {}, {} entries", per_second(10_000, short), per_second(10_000, long), total.sum, history.len())?;
-    Ok(())
+    let (short, long) = (per_second(10_000, short), per_second(10_000, long));
+    println!(rt; "after 10^3 entries: {short} asks a second; after 10^6: {long}")?;
+    println!(rt; "total {}, {} entries", total.sum, history.len())
 }
 
 fn main(rt: HostRuntime) -> io::Result<()> {
