@@ -113,7 +113,6 @@ missing_at items text lex at place ends =
         lex = lex;
         place = place;
         goes = goes_front items (taken_goes 64 (omega arith) items ends.taken.0 ends.taken.1 good ends.taken.2);
-        stops = none;
         within = front_depth 64 items ends.taken.0 ends.taken.1 good ends.taken.2;
       }),
     )

@@ -1,6 +1,10 @@
 pub mod Answering
 pub mod ItemLoop
 pub mod NoteTexts
+pub mod OneCause
+pub mod OnePlace
+pub mod OneTypeCause
+pub mod Prefixes
 pub mod Stopping
 pub mod Trimming
 pub mod TypeAnswering

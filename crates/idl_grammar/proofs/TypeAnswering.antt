@@ -93,7 +93,6 @@ missing_at items text lex at place leaves scope =
         lex = lex;
         place = place;
         goes = taken_front 64 items leaves.state [] leaves.taken;
-        stops = none;
         within = taken_depth 64 items leaves.state [] leaves.taken;
       }),
     )

@@ -35,35 +35,39 @@ pub record Stands (text : Bytes) (front : List Placed) (item : Placed) (rest : L
   pub items : LexAt (length text) (front ++ item ∷ rest) text
   pub place : item.1 ≡ at
 
--- the item at the place is the first with which the items so far are no front of the grammar, and no
--- bracket before it is too deep
-pub record StrayAt (text : Bytes) (at : ℕ) : Type 0 where
+-- the item at the place is the first with which the items so far do not begin what is read, brackets of
+-- any depth lawful, and no bracket before it is too deep
+pub record StrayAt (begins : Lexemes → Type 0) (text : Bytes) (at : ℕ) : Type 0 where
   pub front : List Placed
   pub item : Placed
   pub rest : List Placed
   pub stands : Stands text front item rest at
-  pub goes : BeginsDefinition (bare front)
-  pub stops : BeginsDefinition (bare front ++ unplaced item ∷ []) → ⊥
+  pub goes : begins (bare front)
+  pub stops : begins (bare front ++ unplaced item ∷ []) → ⊥
   pub within : greatest_depth 0 (bare front) ≤ 64
 
--- all items are a front of the grammar, something is missing behind them, and no bracket is too deep
-pub record MissingAt (text : Bytes) (at : ℕ) : Type 0 where
+-- all items begin what is read, no bracket is too deep, and the place is the end of the text, where
+-- something is missing if they are not the whole
+pub record MissingAt (begins : Lexemes → Type 0) (text : Bytes) (at : ℕ) : Type 0 where
   pub items : Lexemes
   pub lex : Lex items text
   pub place : at ≡ length text
-  pub goes : BeginsDefinition items
-  pub stops : (tree : Interface) → Spells tree text → ⊥
+  pub goes : begins items
   pub within : greatest_depth 0 items ≤ 64
 
--- the item at the place is the first `(` with which more than 64 are open, and the items up to it are a
--- front of the grammar
-pub record DeepAt (text : Bytes) (at : ℕ) : Type 0 where
+-- the first item with which nothing goes on, or the end where something is missing
+abbrev pub StopsIn : (Lexemes → Type 0) → Bytes → ℕ → Type 0
+StopsIn begins text at = StrayAt begins text at ⊎ MissingAt begins text at
+
+-- the item at the place is the first `(` with which more than 64 are open, and the items up to it begin
+-- what is read, brackets of any depth lawful
+pub record DeepAt (begins : Lexemes → Type 0) (text : Bytes) (at : ℕ) : Type 0 where
   pub front : List Placed
   pub item : Placed
   pub rest : List Placed
   pub stands : Stands text front item rest at
   pub bracket : unplaced item ≡ left_bracket
-  pub goes : BeginsDefinition (bare front ++ unplaced item ∷ [])
+  pub goes : begins (bare front ++ unplaced item ∷ [])
   pub within : greatest_depth 0 (bare front) ≤ 64
   pub beyond : depth_at_end 0 (bare front) ≡ 64
 
@@ -80,8 +84,8 @@ abbrev pub Refuses : IdlFault → Bytes → Type 0
 Refuses (fault.Token (token.NotUtf8 at)) text = (IsUtf8 text → ⊥) × (at ≡ utf8_valid_len text)
 Refuses (fault.Token (token.BadByte at)) text = IsUtf8 text × BadByteAt at text × ((items : Lexemes) → Lex items text → ⊥)
 Refuses (fault.Token token.Memory) text = ⊥
-Refuses (fault.Syntax at) text = HasLex text × ((tree : Interface) → Spells tree text → ⊥) × (StrayAt text at ⊎ MissingAt text at)
-Refuses (fault.TooDeep at) text = HasLex text × ((tree : Interface) → Spells tree text → 64 < Deep tree) × DeepAt text at
+Refuses (fault.Syntax at) text = HasLex text × ((tree : Interface) → Spells tree text → ⊥) × StopsIn BeginsDefinition text at
+Refuses (fault.TooDeep at) text = HasLex text × ((tree : Interface) → Spells tree text → 64 < Deep tree) × DeepAt BeginsDefinition text at
 Refuses (fault.Name found) text = RefusesNames found text
 Refuses fault.Memory text = Unit {0}
 
@@ -95,3 +99,15 @@ abbrev pub Gives : Result Interface IdlFault → Interface → Type 0
 Gives (Ok given) tree = given ≡ tree
 Gives (Err fault.Memory) tree = Unit {0}
 Gives (Err found) tree = ⊥
+
+-- two causes are the same one, want of memory apart
+abbrev pub SameCause : IdlFault → IdlFault → Type 0
+SameCause fault.Memory other = Unit {0}
+SameCause one fault.Memory = Unit {0}
+SameCause one other = one ≡ other
+
+-- the answer for a text that is refused for that cause
+abbrev pub Tells : {A : Type 0} → Result A IdlFault → IdlFault → Type 0
+Tells (Err told) found = SameCause told found
+Tells (Ok value) fault.Memory = Unit {0}
+Tells (Ok value) found = ⊥

@@ -6,7 +6,8 @@ ghost use Rattle.idl_rules.specs.Spells.{Accepts};
 ghost use Rattle.idl_rules.specs.Reading.{run};
 ghost use Rattle.idl_rules.specs.declared.states.State.TheVariants.{Start};
 ghost use Rattle.idl_grammar.specs.Follows.{Continues, Reads, Ends, IsReadable};
-ghost use Rattle.idl_grammar.specs.Refuses.{Answers, Gives};
+ghost use Rattle.idl_grammar.specs.declared.faults.IdlFault.{IdlFault};
+ghost use Rattle.idl_grammar.specs.Refuses.{Answers, Gives, Refuses, Tells};
 ghost use Rattle.idl_grammar.specs.Follows.{TreeOf, Checks, of_token, of_name};
 ghost use Rattle.idl_tree.specs.Form.{Form, Deep};
 
@@ -31,9 +32,11 @@ pub struct Progress {
 /// It is accepted exactly where the text spells a tree, its brackets are at most 64 deep, and its
 /// names are unique and defined; such a text is refused for want of memory alone. A refusal tells the
 /// offset of the first item with which no definition goes on, or of the first `(` that is too deep.
+/// Each cause is told exactly where it is there, want of memory apart: no text has two.
 pub fn read(alloc: Global, text: &[u8]) -> Result<Checked, IdlFault>
     ensures answer { Answers result text.now }
     ensures complete { (tree : Interface) → Accepts text.now tree → Gives result tree }
+    ensures refused { (cause : IdlFault) → Refuses cause text.now → Tells result cause }
 {
     match read_tree(alloc, text) {
         Ok(tree) => check_names(alloc, tree),

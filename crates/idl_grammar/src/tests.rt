@@ -1,8 +1,13 @@
-use crate::{IdlFault, read, read_type};
+use crate::{IdlFault, one_cause, read, read_type};
 use idl_token::TokenFault;
 use idl_tree::{Core, NameFault, Prefix};
 use std::alloc::{AllocError, Global};
 use std::test::Fail;
+
+#[test]
+fn law_may_be_called(_rt: HostRuntime) {
+    one_cause();
+}
 
 #[test]
 fn tells_what_a_text_is(rt: HostRuntime) {

@@ -7,7 +7,9 @@ ghost use Rattle.idl_rules.specs.Reading.{Stray, here, slot_next, plain_next};
 ghost use Rattle.idl_types.specs.Types.{AcceptsType};
 ghost use Rattle.idl_types.specs.TypeReading.{at_type, is_whole_type, type_next, type_read};
 ghost use Rattle.idl_grammar.specs.Follows.{Follows};
-ghost use Rattle.idl_grammar.specs.RefusesType.{AnswersType, GivesType};
+ghost use Rattle.idl_grammar.specs.declared.faults.IdlFault.{IdlFault};
+ghost use Rattle.idl_grammar.specs.Refuses.{Tells};
+ghost use Rattle.idl_grammar.specs.RefusesType.{AnswersType, GivesType, RefusesType};
 ghost use Rattle.idl_grammar.specs.FollowsType.{TypeOf, ChecksType, ReadsType, EndsType, only_type};
 
 use crate::faults::{IdlFault, Stop};
@@ -25,10 +27,12 @@ use std::alloc::Global;
 /// each bracket are distinct, and the types that it uses are those of `scope`; such a text is refused
 /// for want of memory alone. A refusal tells the offset of the first item with which no type goes on,
 /// as each note is one, or of the first `(` that is too deep; where the type is not whole, it tells the
-/// text's length. Else it tells the first fault of its names.
+/// text's length. Else it tells the first fault of its names. Each cause is told exactly where it is
+/// there, want of memory apart: no text has two.
 pub fn read_type(alloc: Global, text: &[u8], scope: &Checked) -> Result<TypeRef, IdlFault>
     ensures answer { AnswersType result text.now scope.now }
     ensures complete { (of : TypeRef) → AcceptsType text.now scope.now of → GivesType result of }
+    ensures refused { (cause : IdlFault) → RefusesType cause text.now scope.now → Tells result cause }
 {
     match read_bare_type(alloc, text) {
         Ok(of) => check_used_names(alloc, of, scope),

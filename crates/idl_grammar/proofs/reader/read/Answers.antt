@@ -1,5 +1,6 @@
 use Rattle.std.proofs.Common.{Err}
 use Rattle.idl_grammar.proofs.Answering.{named, complete}
+use Rattle.idl_grammar.proofs.OneCause.{tells}
 use Rattle.idl_grammar.proofs.reader.read.Goals as goal
 
 pub returns-in-Ok-clause-answer : goal.returns-in-Ok-clause-answer
@@ -11,3 +12,9 @@ returns-in-Ok-clause-complete c = complete c.args.text.now c.check_names.result 
 
 pub returns-in-Err-clause-complete : goal.returns-in-Err-clause-complete
 returns-in-Err-clause-complete c = complete c.args.text.now (Err c.in-Err.fault) c.in-Err.ensures
+
+pub returns-in-Ok-clause-refused : goal.returns-in-Ok-clause-refused
+returns-in-Ok-clause-refused c = tells c.args.text.now c.check_names.result (returns-in-Ok-clause-answer c)
+
+pub returns-in-Err-clause-refused : goal.returns-in-Err-clause-refused
+returns-in-Err-clause-refused c = tells c.args.text.now (Err c.in-Err.fault) c.in-Err.ensures

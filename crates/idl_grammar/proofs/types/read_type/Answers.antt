@@ -1,5 +1,6 @@
 use Rattle.std.proofs.Common.{Err}
 use Rattle.idl_grammar.proofs.TypeAnswering.{type_named, type_complete}
+use Rattle.idl_grammar.proofs.OneTypeCause.{type_tells}
 use Rattle.idl_grammar.proofs.types.read_type.Goals as goal
 
 pub returns-in-Ok-clause-answer : goal.returns-in-Ok-clause-answer
@@ -14,3 +15,10 @@ returns-in-Err-clause-answer c = c.in-Err.ensures c.args.scope.now
 
 pub returns-in-Err-clause-complete : goal.returns-in-Err-clause-complete
 returns-in-Err-clause-complete c = type_complete c.args.text.now c.args.scope.now (Err c.in-Err.fault) (c.in-Err.ensures c.args.scope.now)
+
+pub returns-in-Ok-clause-refused : goal.returns-in-Ok-clause-refused
+returns-in-Ok-clause-refused c = type_tells c.args.text.now c.args.scope.now c.check_used_names.result (returns-in-Ok-clause-answer c)
+
+pub returns-in-Err-clause-refused : goal.returns-in-Err-clause-refused
+returns-in-Err-clause-refused c =
+    type_tells c.args.text.now c.args.scope.now (Err c.in-Err.fault) (c.in-Err.ensures c.args.scope.now)
