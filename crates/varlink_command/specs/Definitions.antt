@@ -43,10 +43,16 @@ pub record IsDefinition (held : Option (List ℕ)) (tree : Interface) : Type 0 w
   pub holds : Holds held text
   pub accepts : Accepts text tree
 
+-- want of memory is no cause of a refusal
+abbrev pub IsCause : IdlFault → Type 0
+IsCause idl.Memory = ⊥
+IsCause fault = ⊤
+
 -- the text is accepted as no tree, and this is why
 pub record IsNone (held : Option (List ℕ)) (fault : IdlFault) : Type 0 where
   pub text : List ℕ
   pub holds : Holds held text
+  pub caused : IsCause fault
   pub refuses : Refuses fault text
   pub none : (tree : Interface) → Accepts text tree → ⊥
 
