@@ -81,11 +81,15 @@ pub(crate) fn ask_in_turn<O: Object, R: Wait>(
     ensures table { seat.new.table_id ≡ seat.old.table_id }
     ensures seat { seat.new.me ≡ (asked_once (seen_by seat.new) seat.old.me.0, []) }
     ensures good { AllGood O.good shared.now.key.value (seen_by seat.new) }
-    ensures entry { let v = seat.old.me.0 in OnOk result (EndsWith v.seen (numbers_of v) entry (seen_by seat.new)) }
-    ensures reply { let s = shared.now.key.value in IfOk result (IsReply O.after O.answer s (seen_by seat.new)) }
+    ensures entry { let v = seat.old.me.0 in
+        OnOk result (EndsWith v.seen (numbers_of v) entry (seen_by seat.new)) }
+    ensures reply { let s = shared.now.key.value in
+        IfOk result (IsReply O.after O.answer s (seen_by seat.new)) }
     ensures within { OnOk result (weight_of O.weigh (seen_by seat.new) ≤ limit) }
-    ensures others { let v = seat.old.me.0 in OnErr result (GoesOn v.seen (numbers_of v) (seen_by seat.new)) }
-    ensures fault { IfErr result (NotMade limit (weight_of O.weigh (seen_by seat.new)) (O.weigh entry.request)) }
+    ensures others { let v = seat.old.me.0 in
+        OnErr result (GoesOn v.seen (numbers_of v) (seen_by seat.new)) }
+    ensures fault { IfErr result
+        (NotMade limit (weight_of O.weigh (seen_by seat.new)) (O.weigh entry.request)) }
 {
     let ticket = shared.fetch_add::<Draw>(seat, NEXT_TICKET, 1);
     let taken = take_turn(rt, shared, seat, ticket);
