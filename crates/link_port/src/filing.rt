@@ -112,15 +112,15 @@ impl MemFiles {
     }
 
     // Records a read, which failed or did not. After want of memory nothing was recorded.
-    fn record_read(&mut self, path: Text, failed: bool) -> Result<(), Memory>
+    fn record_read(&mut self, alloc: Global, path: &str, failed: bool) -> Result<(), Memory>
         ensures ok { OnOk result (self.new ≡ record {
           files = self.old.files;
           calls = after_call failed self.old.calls;
-          paths = self.old.paths ++ path ∷ [];
+          paths = self.old.paths ++ path.now ∷ [];
         }) }
         ensures memory { OnErr result (self.new ≡ self.old) }
     {
-        self.paths.push(path)?;
+        self.paths.push(Text::of(alloc, path)?)?;
         self.calls.count(failed);
         Ok(())
     }
@@ -139,18 +139,20 @@ impl Files for MemFiles {
     fn read(&mut self, alloc: Global, path: &str, most: u64) -> Result<List<u8>, FileFault>
         ensures exact { ReadsInMemory self.old path.now most result self.new }
     {
-        let name = Text::of(alloc, path)?;
         match answer_of(alloc, self.found(path), most) {
-            Ok(bytes) => {
-                self.record_read(name, false)?;
-                Ok(bytes)
-            }
+            Ok(bytes) => match self.record_read(alloc, path, false) {
+                Ok(()) => Ok(bytes),
+                Err(Memory) => {
+                    drop(bytes);
+                    Err(FileFault::Memory)
+                }
+            },
             Err(FileFault::TooLong) => {
-                self.record_read(name, false)?;
+                self.record_read(alloc, path, false)?;
                 Err(FileFault::TooLong)
             }
             Err(FileFault::Failed) => {
-                self.record_read(name, true)?;
+                self.record_read(alloc, path, true)?;
                 Err(FileFault::Failed)
             }
             Err(FileFault::Memory) => Err(FileFault::Memory),

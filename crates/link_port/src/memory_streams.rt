@@ -1,8 +1,8 @@
 // A source and a sink in memory.
-ghost use Rattle.std.specs.Prelude.{◌≡◌, ◌<◌, ◌≤◌, [], IfOk, IsOk, OnOk, OnErr, length};
+ghost use Rattle.std.specs.Prelude.{◌≡◌, ◌<◌, ◌≤◌, false, [], IfOk, IsOk, OnOk, OnErr, length};
 ghost use Rattle.link_port.specs.Faults.{Rises};
 ghost use Rattle.link_port.specs.Flow.{IsAsBefore, TakesFront, EndsWhereNothingIsLeft, PutsFront};
-ghost use Rattle.link_port.specs.InMemory.{TakesInMemory, PutsInMemory, FinishesInMemory};
+ghost use Rattle.link_port.specs.InMemory.{TakesInMemory, PutsInMemory, FlushesInMemory, FinishesInMemory};
 
 use crate::lists::List;
 use crate::planned_calls::{CallPlan, SizePlan};
@@ -84,6 +84,7 @@ pub struct MemSink {
     room: usize,
     sizes: SizePlan,
     calls: CallPlan,
+    finished: bool,
 }
 
 impl Model for MemSink {
@@ -92,8 +93,13 @@ impl Model for MemSink {
 
     ghost Value = { SinkInMemory };
 
-    ghost view = { λ sink.
-        record { written = sink.bytes.items; room = sink.room; sizes = sink.sizes; calls = sink.calls } };
+    ghost view = { λ sink. record {
+      written = sink.bytes.items;
+      room = sink.room;
+      sizes = sink.sizes;
+      calls = sink.calls;
+      finished = sink.finished;
+    } };
 
     ghost invariant = { λ sink. (vec_len sink.bytes ≤ sink.room) × (sink.room ≤ vec_capacity sink.bytes) };
 }
@@ -101,8 +107,8 @@ impl Model for MemSink {
 impl MemSink {
     /// An empty sink that holds at most `room` bytes, and reserves memory for them. `sizes` are the
     /// greatest sizes of the successive puts that do not fail: 0 counts as 1, and after the list
-    /// there is no greatest size. `failing` lists the numbers of the calls that fail: puts and
-    /// finishes are numbered together, from 0 on. A put fails also where the room is full.
+    /// there is no greatest size. `failing` lists the numbers of the calls that fail: puts, flushes
+    /// and finishes are numbered together, from 0 on. A put fails also where the room is full.
     pub fn new(
         alloc: Global,
         room: u64,
@@ -114,6 +120,7 @@ impl MemSink {
           room = room;
           sizes = sizes;
           calls = record { failing = failing; number = 0; faults = 0 };
+          finished = false;
         }) }
     {
         let room = room as usize;
@@ -122,6 +129,7 @@ impl MemSink {
             room,
             sizes: SizePlan::new(sizes),
             calls: CallPlan::new(failing),
+            finished: false,
         })
     }
 
@@ -139,11 +147,14 @@ impl Ends for MemSink {
     ghost written = { λ sink. Some sink.written };
 
     ghost write_faults = { λ sink. sink.calls.faults };
+
+    ghost finished = { λ sink. sink.finished };
 }
 
 impl Sink for MemSink {
     fn put(&mut self, piece: &[u8]) -> Result<usize, Failed>
-        requires { 0 < length piece.now }
+        requires some { 0 < length piece.now }
+        requires unfinished { self.old.finished ≡ false }
         ensures exact { PutsInMemory self.old piece.now result self.new }
     {
         let room = self.room - self.bytes.len();
@@ -159,11 +170,20 @@ impl Sink for MemSink {
         }
     }
 
-    fn finish(&mut self) -> Result<(), Failed>
-        ensures exact { FinishesInMemory self.old result self.new }
+    fn flush(&mut self) -> Result<(), Failed>
+        ensures exact { FlushesInMemory self.old result self.new }
     {
         let fails = self.calls.is_failing();
         self.calls.count(fails);
         if fails { Err(Failed) } else { Ok(()) }
+    }
+
+    fn finish(&mut self) -> Result<(), Failed>
+        requires { self.old.finished ≡ false }
+        ensures exact { FinishesInMemory self.old result self.new }
+    {
+        self.flush()?;
+        self.finished = true;
+        Ok(())
     }
 }

@@ -1,5 +1,5 @@
 // A source and a sink that never fail.
-ghost use Rattle.std.specs.Prelude.{◌≡◌, ◌<◌, ◌++◌, IsOk, Ok, length, take, drop, min};
+ghost use Rattle.std.specs.Prelude.{◌≡◌, ◌<◌, ◌++◌, true, false, IsOk, Ok, length, take, drop, min};
 
 use crate::lists::List;
 use crate::refusals::{Failed, Memory};
@@ -52,30 +52,56 @@ impl Source for SureSource {
     }
 }
 
-/// A sink that drops its bytes and never fails. It tells nothing.
+/// A sink that drops its bytes and never fails. Contracts see whether it was finished.
 #[derive(Debug, Drop)]
-pub struct SureSink;
+pub struct SureSink {
+    finished: bool,
+}
+
+impl Model for SureSink {
+    ghost use Rattle.std.specs.Prelude.{Bool};
+
+    ghost Value = { Bool };
+
+    ghost view = { λ sink. sink.finished };
+}
 
 impl SureSink {
     /// A sink.
-    pub fn new() -> SureSink {
-        SureSink
+    pub fn new() -> SureSink
+        ensures { result ≡ false }
+    {
+        SureSink { finished: false }
     }
 }
 
-impl Ends for SureSink {}
+impl Ends for SureSink {
+    ghost finished = { λ sink. sink };
+}
 
 impl Sink for SureSink {
     fn put(&mut self, piece: &[u8]) -> Result<usize, Failed>
-        requires { 0 < length piece.now }
-        ensures { result ≡ Ok (length piece.now) }
+        requires some { 0 < length piece.now }
+        requires unfinished { self.old ≡ false }
+        ensures count { result ≡ Ok (length piece.now) }
+        ensures unfinished { self.new ≡ false }
     {
         Ok(piece.len())
     }
 
-    fn finish(&mut self) -> Result<(), Failed>
-        ensures { IsOk result }
+    fn flush(&mut self) -> Result<(), Failed>
+        ensures ok { IsOk result }
+        ensures still { self.new ≡ self.old }
     {
+        Ok(())
+    }
+
+    fn finish(&mut self) -> Result<(), Failed>
+        requires { self.old ≡ false }
+        ensures ok { IsOk result }
+        ensures finished { self.new ≡ true }
+    {
+        self.finished = true;
         Ok(())
     }
 }

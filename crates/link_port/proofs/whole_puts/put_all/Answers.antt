@@ -14,4 +14,5 @@ loop-done-preserved g c =
       bytes = Appends-front _ _ _ c.loop-done.done c.in-Ok.count piece before.bytes step.bytes;
       sound = step.sound ∙ before.sound;
       other = (step.other.0 ∙ before.other.0, step.other.1 ∙ before.other.1);
+      unfinished = step.unfinished;
     }

@@ -1,4 +1,4 @@
-use Rattle.std.proofs.Common.{length, ◌-◌, ◌≡◌, ◌≤◌, take}
+use Rattle.std.proofs.Common.{length, ◌-◌, ◌≡◌, ◌≤◌, false, take}
 use Rattle.std.specs.Io.KnownBytes.{Appends}
 use Rattle.link_port.specs.Flow.{IsAsBefore}
 use Rattle.link_port.proofs.whole_puts.put_all.Given as goal
@@ -12,6 +12,7 @@ invariant-loop-done g l =
       bytes : Appends (ends.written l.initial.sink) (ends.written l.sink) (take l.done l.piece);
       sound : ends.write_faults l.sink ≡ ends.write_faults l.initial.sink;
       other : IsAsBefore (ends.left l.initial.sink) (ends.left l.sink) (ends.read_faults l.initial.sink) (ends.read_faults l.sink);
+      unfinished : ends.finished l.sink ≡ false;
     }
 
 -- each put appends at least one byte
