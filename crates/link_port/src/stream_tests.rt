@@ -1,5 +1,5 @@
 // What the objects in memory give and keep, call by call.
-ghost use Rattle.std.specs.Prelude.{◌≡◌, ◌<◌, false, IfOk, length};
+ghost use Rattle.std.specs.Prelude.{◌≡◌, false, IfOk};
 
 use super::*;
 use std::alloc::Global;
@@ -49,17 +49,13 @@ fn check_takes<S: Source>(
     }
 }
 
-// Puts and flushes through the trait alone.
-fn put_and_flush<K: Sink>(sink: &mut K, piece: &[u8]) -> Result<usize, Failed>
-    requires some { 0 < length piece.now }
-    requires unfinished { K.finished sink.old ≡ false }
+// Puts a piece and flushes, through the trait alone.
+fn put_and_flush<K: Sink>(sink: &mut K, piece: &[u8]) -> (Result<(), Short>, Result<(), Failed>)
+    requires { K.finished sink.old ≡ false }
     ensures { K.finished sink.new ≡ false }
 {
-    let count = sink.put(piece)?;
-    match sink.flush() {
-        Ok(()) => Ok(count),
-        Err(failed) => Err(failed),
-    }
+    let put = put_all(sink, piece);
+    (put, sink.flush())
 }
 
 fn mem_source(alloc: Global) -> Result<MemSource, Memory> {
@@ -96,11 +92,11 @@ fn mem_sink(alloc: Global) -> Result<MemSink, Memory>
 #[test]
 fn a_sink_in_memory_keeps_its_bytes_and_fails_as_planned(rt: HostRuntime) -> Result<(), Fail> {
     let mut sink = mem_sink(rt.alloc())?;
-    assert_eq!(rt; put_all(&mut sink, b"abcd"), Ok(()));
-    assert_eq!(rt; sink.bytes(), b"abcd".as_slice());
-    assert_eq!(rt; sink.flush(), Err(Failed));
-    assert_eq!(rt; put_and_flush(&mut sink, b"xyz"), Ok(1));
-    assert_eq!(rt; put_all(&mut sink, b"xyz"), Err(Short { written: 0 }));
+    assert_eq!(rt; put_and_flush(&mut sink, b"abcd"), (Ok(()), Err(Failed)));
+    assert_eq!(rt;
+        put_and_flush(&mut sink, b"xyz"),
+        (Err(Short { written: 1 }), Ok(()))
+    );
     assert_eq!(rt; sink.finish(), Ok(()));
     assert_eq!(rt; sink.bytes(), b"abcdx".as_slice());
     Ok(())
@@ -115,39 +111,27 @@ fn a_sure_source_and_a_sure_sink_never_fail(rt: HostRuntime) -> Result<(), Fail>
         &[(Ok(4), *b"abcd"), (Ok(1), *b"ebcd"), (Ok(0), *b"ebcd")],
     );
     let mut sink = SureSink::new();
-    assert_eq!(rt; put_all(&mut sink, b"abc"), Ok(()));
-    assert_eq!(rt; put_and_flush(&mut sink, b"abc"), Ok(3));
+    assert_eq!(rt; put_and_flush(&mut sink, b"abc"), (Ok(()), Ok(())));
     assert_eq!(rt; sink.finish(), Ok(()));
     Ok(())
 }
 
-// A file with its name.
-fn file(alloc: Global, name: &str, content: &str) -> Result<(Text, List<u8>), Memory> {
-    beside(Text::of(alloc, name)?, bytes(alloc, content))
-}
-
-// A list with one more item, where that was made.
-fn with<T: Drop>(held: List<T>, made: Result<T, Memory>) -> Result<List<T>, Memory> {
-    let (mut list, item) = beside(held, made)?;
-    match list.push(item) {
-        Ok(()) => Ok(list),
-        Err(memory) => {
-            drop(list);
-            Err(memory)
-        }
-    }
-}
-
 fn mem_files(alloc: Global) -> Result<MemFiles, Memory> {
-    let one = with(List::new(alloc), file(alloc, "one", "abc"))?;
-    let two = with(one, file(alloc, "two", "abcd"))?;
-    let (files, failing) = beside(two, numbers(alloc, &[3]))?;
+    let file = beside(Text::of(alloc, "one")?, bytes(alloc, "abc"))?;
+    let mut files = List::new(alloc);
+    let pushed = files.push(file);
+    let ((files, ()), failing) = beside(beside(files, pushed)?, numbers(alloc, &[2]))?;
     MemFiles::new(alloc, files, failing)
 }
 
-// Reads a file of at most three bytes through the trait alone, and gives its length.
-fn read_length<F: Files>(files: &mut F, alloc: Global, path: &str) -> Result<u64, FileFault> {
-    let content = files.read(alloc, path, 3)?;
+// Reads a file through the trait alone, and gives its length.
+fn read_length<F: Files>(
+    files: &mut F,
+    alloc: Global,
+    path: &str,
+    most: u64,
+) -> Result<u64, FileFault> {
+    let content = files.read(alloc, path, most)?;
     Ok(content.len())
 }
 
@@ -156,13 +140,13 @@ fn files_in_memory_are_read_whole_and_fail_as_planned(rt: HostRuntime) -> Result
     let alloc = rt.alloc();
     let mut files = mem_files(alloc)?;
     let wanted = [
-        ("one", Ok(3)),
-        ("two", Err(FileFault::TooLong)),
-        ("three", Err(FileFault::Failed)),
-        ("one", Err(FileFault::Failed)),
+        ("one", 3, Ok(3)),
+        ("one", 2, Err(FileFault::TooLong)),
+        ("one", 3, Err(FileFault::Failed)),
+        ("two", 3, Err(FileFault::Failed)),
     ];
-    for (path, length) in wanted {
-        assert_eq!(rt; read_length(&mut files, alloc, path), length);
+    for (path, most, length) in wanted {
+        assert_eq!(rt; read_length(&mut files, alloc, path, most), length);
     }
     Ok(())
 }

@@ -4,7 +4,7 @@ use std::alloc::Global;
 use std::test::Fail;
 
 /// A type that leads back to itself through a list and a box.
-#[derive(Debug, Drop)]
+#[derive(Drop)]
 enum Tree {
     Leaf(u64),
     Boxed(Box<Tree>),
