@@ -4,4 +4,5 @@ pub mod FileReads
 pub mod Flow
 pub mod InMemory
 pub mod Planned
+pub mod SoundTrees
 pub mod formers

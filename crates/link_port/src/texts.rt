@@ -1,4 +1,4 @@
-ghost use Rattle.std.specs.Prelude.{◌≡◌, ◌==◌, IfOk, length};
+ghost use Rattle.std.specs.Prelude.{◌≡◌, ◌==◌, IfOk, IsUtf8, length};
 ghost use Rattle.std.specs.Cmp.Lexicographic.{pointwise};
 ghost use Rattle.std.specs.Cmp.Rules.{comparing};
 ghost use Rattle.std.proofs.Common.{rules};
@@ -25,7 +25,8 @@ impl Model for Text {
 impl Text {
     /// Copies a text.
     pub fn of(alloc: Global, text: &str) -> Result<Text, Memory>
-        ensures { IfOk result (λ copy. copy ≡ text.now) }
+        ensures bytes { IfOk result (λ copy. copy ≡ text.now) }
+        ensures utf8 { IfOk result (λ copy. IsUtf8 copy) }
     {
         Ok(Text {
             inner: String::from_str(alloc, text)?,

@@ -1,5 +1,6 @@
 ghost use Rattle.std.specs.Prelude.{◌≡◌};
 ghost use Rattle.serde_json.specs.View.{view};
+ghost use Rattle.link_port.specs.SoundTrees.{HasUtf8};
 
 use std::marker::Model;
 
@@ -25,7 +26,8 @@ impl Model for Value {
 impl Value {
     /// Wraps a JSON value. It takes no memory.
     pub fn of(inner: serde_json::Value) -> Value
-        ensures { result ≡ view inner }
+        ensures tree { result ≡ view inner }
+        ensures utf8 { HasUtf8 result }
     {
         Value { inner }
     }
