@@ -1,2 +1,3 @@
 pub mod Flowing
+pub mod Sharing
 pub mod Utf8Views
