@@ -26,6 +26,29 @@ pieces-led b bytes other =
     ap (λ (t : Bool). cond t (record { payloads = [] ∷ later.payloads; rest = later.rest })
     (led b later.payloads later.rest)) (ne_eqb b 0 other)
 
+-- bytes held before a stream, none of them NUL, are the front of its first piece
+abbrev pub led_all : List ℕ → List (List ℕ) → List ℕ → Pieces
+led_all held [] rest = record { payloads = []; rest = held ++ rest }
+led_all held (payload ∷ payloads) rest = record { payloads = (held ++ payload) ∷ payloads; rest = rest }
+
+led-led_all : (b : ℕ) (held : List ℕ) (payloads : List (List ℕ)) (rest : List ℕ) →
+    led b (led_all held payloads rest).payloads (led_all held payloads rest).rest ≡ led_all (b ∷ held) payloads rest
+led-led_all b held [] rest = refl
+led-led_all b held (payload ∷ payloads) rest = refl
+
+led_all-nil : (payloads : List (List ℕ)) (rest : List ℕ) →
+    (record { payloads = payloads; rest = rest }) ≡ led_all [] payloads rest
+led_all-nil [] rest = refl
+led_all-nil (payload ∷ payloads) rest = refl
+
+pub pieces-led_all : (held bytes : List ℕ) → NoNul held →
+    pieces (held ++ bytes) ≡ led_all held (pieces bytes).payloads (pieces bytes).rest
+pieces-led_all [] bytes no_nul = led_all-nil (pieces bytes).payloads (pieces bytes).rest
+pieces-led_all (b ∷ held) bytes no_nul =
+    pieces-led b (held ++ bytes) no_nul.0
+    ∙ ap (λ (p : Pieces). led b p.payloads p.rest) (pieces-led_all held bytes no_nul.1)
+    ∙ led-led_all b held (pieces bytes).payloads (pieces bytes).rest
+
 -- bytes with no NUL are all rest
 pub pieces-no_nul : (bytes : List ℕ) → NoNul bytes →
     pieces bytes ≡ record { payloads = []; rest = bytes }
