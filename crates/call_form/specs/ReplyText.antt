@@ -1,9 +1,10 @@
 -- The text of a reply (varlink.org, "Method Call": an object with optionally `parameters`,
 -- `continues` and `error`, and a NUL byte after it).
-use Rattle.std.specs.Prelude.{◌≡◌, ℕ, List, [], ◌∷◌, ◌++◌, Bool, true, false, codes, Option, Some}
-use Rattle.std.specs.Prelude.{None}
+use Rattle.std.specs.Prelude.{ℕ, List, [], ◌∷◌, ◌++◌, Bool, true, false, codes, Option, Some}
+use Rattle.std.specs.Prelude.{None, IfSome, IsUtf8}
+use Rattle.link_port.specs.SoundTrees.{IsSound, HasUtf8}
 use Rattle.serde_json.specs.Data.{Data, boolean, string, object, Members, no_members, member}
-use Rattle.serde_json.specs.Written.{compact_text, has_float}
+use Rattle.serde_json.specs.Written.{compact_text}
 use Rattle.call_form.specs.CallOf.{IsObject}
 use Rattle.call_form.specs.declared.Reply.{Reply}
 
@@ -28,10 +29,13 @@ reply_tree reply =
 abbrev pub reply_bytes : Reply → List ℕ
 reply_bytes reply = compact_text (reply_tree reply) ++ 0 ∷ []
 
--- the parameters are an object and hold no number but whole ones
+-- the text of the reply stands for it alone: the parameters are an object with its keys in byte order and each once,
+-- and hold no number but whole ones, and all strings are UTF-8
 pub record IsWritable (reply : Reply) : Type 0 where
   pub is_object : IsObject reply.parameters
-  pub no_float : has_float reply.parameters ≡ false
+  pub is_sound : IsSound reply.parameters
+  pub is_utf8 : HasUtf8 reply.parameters
+  pub name_is_utf8 : IfSome reply.error IsUtf8
 
 -- the members as they stand in the text
 abbrev pub continues_text : Bool → List ℕ

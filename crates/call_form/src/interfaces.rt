@@ -28,6 +28,12 @@ error MethodNotImplemented (method: string)
 
 # One of the parameters or flags is refused.
 error InvalidParameter (parameter: string)
+
+# The method gives several replies and was called without more.
+error ExpectedMore ()
+
+# The caller may not make this call.
+error PermissionDenied ()
 ";
 
 /// The definition of `org.varlink.resolver`, which finds the address of an interface.

@@ -13,12 +13,15 @@ mod writing;
 
 pub use errors::standard;
 pub use interfaces::{RESOLVER_TEXT, SERVICE_TEXT};
-pub use laws::{calls_are, one_message};
+pub use laws::{
+    call_limit, calls_are, calls_read_back, one_call, one_message, replies_read_back,
+    texts_are_utf8, trees_read_back,
+};
 pub use reading::read_call;
 pub use writing::reply_text;
 
 /// The greatest length of a call's payload, in bytes.
-pub const CALL_LIMIT: u64 = 1_048_576;
+pub const CALL_LIMIT: u64 = 4_194_304;
 
 /// A method call (varlink.org, "Method Call").
 #[derive(Drop)]
@@ -64,7 +67,7 @@ pub struct Outcome {
     pub raw: Option<Raw>,
 }
 
-/// An error of the interface `org.varlink.service` with its field.
+/// An error of the interface `org.varlink.service`, with its field if it has one.
 #[derive(Debug, Drop)]
 pub enum StdError {
     /// The service has no such interface.
@@ -75,6 +78,10 @@ pub enum StdError {
     MethodNotImplemented(Text),
     /// The parameter or flag of this name is refused.
     InvalidParameter(Text),
+    /// The method gives several replies and was called without `more`.
+    ExpectedMore,
+    /// The caller may not make this call.
+    PermissionDenied,
 }
 
 /// Why a payload is no call: the first that applies, in this order. `Memory` alone tells nothing

@@ -1,6 +1,8 @@
+// Calls read and replies written, at the bytes.
 use crate::{CallFault, Reply, StdError, read_call, reply_text, standard};
-use link_port::{Memory, Text, Value};
+use link_port::{List, Memory, Text, Value};
 use serde_json::json;
+use std::alloc::Global;
 
 /// Each fault of a payload, and what is no fault.
 #[test]
@@ -64,13 +66,22 @@ fn writes_a_reply(rt: HostRuntime) -> Result<(), Memory> {
     Ok(())
 }
 
+fn error_text(alloc: Global, error: StdError) -> Result<List<u8>, Memory> {
+    let reply = standard(alloc, error)?;
+    let text = reply_text(alloc, &reply);
+    drop(reply);
+    text
+}
+
 #[test]
 fn writes_errors(rt: HostRuntime) -> Result<(), Memory> {
     let name = Text::of(rt.alloc(), "a\0b")?;
-    let reply = standard(rt.alloc(), StdError::MethodNotImplemented(name))?;
-    let text = reply_text(rt.alloc(), &reply)?;
+    let text = error_text(rt.alloc(), StdError::MethodNotImplemented(name))?;
     let want = b"{\"error\":\"org.varlink.service.MethodNotImplemented\",\
         \"parameters\":{\"method\":\"a\\u0000b\"}}\0";
+    assert_eq!(rt; text.as_slice(), want.as_slice());
+    let text = error_text(rt.alloc(), StdError::ExpectedMore)?;
+    let want = b"{\"error\":\"org.varlink.service.ExpectedMore\",\"parameters\":{}}\0";
     assert_eq!(rt; text.as_slice(), want.as_slice());
     Ok(())
 }
