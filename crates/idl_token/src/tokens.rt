@@ -1,4 +1,6 @@
 use link_port::Memory;
+use std::error::Error;
+use std::fmt;
 
 /// The kinds of items.
 #[derive(Debug, Clone, Copy, PartialEq, Eq)]
@@ -43,3 +45,15 @@ impl From<Memory> for TokenFault {
         TokenFault::Memory
     }
 }
+
+impl fmt::Display for TokenFault {
+    fn fmt<W: fmt::Write>(&self, f: &mut fmt::Formatter<W>) -> fmt::Result {
+        match self {
+            TokenFault::NotUtf8 { at } => write!(f, "not UTF-8 at {at}"),
+            TokenFault::BadByte { at } => write!(f, "bad byte at {at}"),
+            TokenFault::Memory => f.write_str("out of memory"),
+        }
+    }
+}
+
+impl Error for TokenFault {}
