@@ -3,5 +3,6 @@ pub mod FirstPlaces
 pub mod Marking
 pub mod MemberNames
 pub mod Opened
+pub mod OtherLengths
 pub mod Reaching
 pub mod Using

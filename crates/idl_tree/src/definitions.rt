@@ -1,8 +1,11 @@
 ghost use Rattle.std.specs.Prelude.{◌≡◌, ◌↔◌, IsTrue, ◌≤◌, IfOk, option_map, find, slice_get};
 ghost use Rattle.std.specs.Option.{option_copied};
+ghost use Rattle.std.specs.List.{position_from};
 ghost use Rattle.idl_tree.specs.Form.{Form, Deep};
-ghost use Rattle.idl_tree.specs.Floats.{BodyReaches, TypeReaches};
+ghost use Rattle.idl_tree.specs.Floats.{BodyReaches, TypeReaches, TellsFloats};
+ghost use Rattle.idl_tree.specs.Places.{Tells};
 ghost use Rattle.idl_tree.specs.Faults.{Answers, Good, first_fault, type_fault, defines, type_named, method_named, error_named, part_named, is_named};
+ghost use Rattle.idl_tree.specs.declared.spaces.Space.TheVariants.{Types};
 
 use crate::checks::{check_members, check_type};
 use crate::faults::NameFault;
@@ -47,16 +50,17 @@ impl Checked {
         ensures checked { IfOk result (λ checked. checked ≡ tree) }
         ensures answer { Answers result (first_fault tree) }
     {
-        let index = Index::of(alloc, tree.members.as_slice())?;
-        if let Err(fault) = check_members(alloc, tree.members.as_slice(), &index) {
-            return Err(fault);
+        match looked_up(alloc, &tree) {
+            Ok((index, floats)) => Ok(Checked {
+                tree,
+                index,
+                floats,
+            }),
+            Err(fault) => {
+                drop(tree);
+                Err(fault)
+            }
         }
-        let floats = mark_floats(alloc, &tree, &index)?;
-        Ok(Checked {
-            tree,
-            index,
-            floats,
-        })
     }
 
     /// Lends the tree.
@@ -98,6 +102,14 @@ impl Checked {
             Some(Part::Fault(body)) => Some(body),
             _ => None,
         }
+    }
+
+    /// The place among the members, counted from 0, of the type of that name, and None where there is no
+    /// such type.
+    pub fn type_place(&self, name: &str) -> Option<usize>
+        ensures { result ≡ position_from (is_named Types name.now) 0 self.now.members }
+    {
+        self.index.place(Space::Types, name)
     }
 
     /// Checks the names of a type that is used in this interface: in each bracket a name stands once, and
@@ -149,4 +161,32 @@ fn member_at(members: &[Member], place: usize) -> Option<&Member>
     ensures { option_copied result ≡ slice_get members.now place }
 {
     members.get(place)
+}
+
+// The index of a tree whose names are good, and which of its types reach `float`.
+fn looked_up(alloc: Global, tree: &Interface) -> Result<(Index, Vec<bool>), NameFault>
+    ensures tells { IfOk result (λ told. Tells told.0 tree.now.members) }
+    ensures floats { IfOk result (λ told. TellsFloats told.0 tree.now told.1.items) }
+    ensures answer { Answers result (first_fault tree.now) }
+{
+    let index = Index::of(alloc, tree.members.as_slice())?;
+    match float_marks(alloc, tree, &index) {
+        Ok(floats) => Ok((index, floats)),
+        Err(fault) => {
+            drop(index);
+            Err(fault)
+        }
+    }
+}
+
+// Which of the types reach `float`, where the names are good.
+fn float_marks(alloc: Global, tree: &Interface, index: &Index) -> Result<Vec<bool>, NameFault>
+    requires { Tells index.now tree.now.members }
+    ensures floats { IfOk result (λ floats. TellsFloats index.now tree.now floats.items) }
+    ensures answer { Answers result (first_fault tree.now) }
+{
+    match check_members(alloc, tree.members.as_slice(), index) {
+        Ok(()) => Ok(mark_floats(alloc, tree, index)?),
+        Err(fault) => Err(fault),
+    }
 }

@@ -1,7 +1,9 @@
 use link_port::{Memory, Text};
+use std::error::Error;
+use std::fmt;
 
 /// Why the names of a tree are refused.
-#[derive(Drop)]
+#[derive(Debug, Drop)]
 pub enum NameFault {
     /// A type of that name stood before.
     TwiceType(Text),
@@ -26,4 +28,29 @@ impl From<Memory> for NameFault {
     fn from(_memory: Memory) -> NameFault {
         NameFault::Memory
     }
+}
+
+impl fmt::Display for NameFault {
+    fn fmt<W: fmt::Write>(&self, f: &mut fmt::Formatter<W>) -> fmt::Result {
+        match self {
+            NameFault::TwiceType(name) => tell(f, "type", name, "stands twice"),
+            NameFault::TwiceMethod(name) => tell(f, "method", name, "stands twice"),
+            NameFault::TwiceError(name) => tell(f, "error", name, "stands twice"),
+            NameFault::TwiceField(name) => tell(f, "name", name, "stands twice"),
+            NameFault::UnknownType(name) => tell(f, "type", name, "is not defined"),
+            NameFault::Memory => f.write_str("out of memory"),
+        }
+    }
+}
+
+impl Error for NameFault {}
+
+// Tells what is wrong with the name of that kind.
+fn tell<W: fmt::Write>(
+    f: &mut fmt::Formatter<W>,
+    kind: &str,
+    name: &Text,
+    wrong: &str,
+) -> fmt::Result {
+    write!(f, "{kind} {} {wrong}", name.as_str())
 }

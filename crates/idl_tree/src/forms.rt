@@ -186,5 +186,11 @@ fn ends_bare(bytes: &[u8]) -> bool
 fn holds_line(bytes: &[u8]) -> bool
     ensures { result ≡ list_all (λ b. not (b == 13 || b == 10)) bytes.now }
 {
-    bytes.iter().all(|b| !matches!(*b, b'\r' | b'\n'))
+    bytes.iter().all(is_in_line)
+}
+
+fn is_in_line(byte: &u8) -> bool
+    ensures { result ≡ not (byte.now == 13 || byte.now == 10) }
+{
+    !matches!(*byte, b'\r' | b'\n')
 }

@@ -30,16 +30,20 @@ pub fn is_field_name(word: &str) -> bool
 fn begins_with_letter(word: &str) -> bool
     ensures { result ≡ is_ascii_alphabetic (slice_index word.now 0) }
 {
-    let bytes = word.as_bytes();
-    bytes.first().is_some_and(|b| b.is_ascii_alphabetic())
+    match word.as_bytes().first() {
+        Some(first) => first.is_ascii_alphabetic(),
+        None => false,
+    }
 }
 
 // Whether the first byte is an upper-case letter of ASCII.
 fn begins_with_capital(word: &str) -> bool
     ensures { result ≡ is_ascii_uppercase (slice_index word.now 0) }
 {
-    let bytes = word.as_bytes();
-    bytes.first().is_some_and(|b| b.is_ascii_uppercase())
+    match word.as_bytes().first() {
+        Some(first) => first.is_ascii_uppercase(),
+        None => false,
+    }
 }
 
 // Whether all bytes are letters and digits of ASCII.
@@ -47,7 +51,7 @@ fn is_alphanumeric(word: &str) -> bool
     ensures { result ≡ list_all is_ascii_alphanumeric word.now }
 {
     let bytes = word.as_bytes();
-    bytes.iter().all(|b| b.is_ascii_alphanumeric())
+    bytes.iter().all(u8::is_ascii_alphanumeric)
 }
 
 // How many parts the dots leave.
@@ -61,14 +65,14 @@ fn count_labels(word: &str) -> usize
 fn has_labels(word: &str) -> bool
     ensures { result ≡ list_all is_label (parts 46 word.now) }
 {
-    word.split('.').all(|part| is_label(part))
+    word.split('.').all(is_label)
 }
 
 // Whether each part between underscores is a run of letters and digits.
 fn has_runs(word: &str) -> bool
     ensures { result ≡ list_all is_run (parts 95 word.now) }
 {
-    word.split('_').all(|part| is_run(part))
+    word.split('_').all(is_run)
 }
 
 // Whether the part is letters and digits, and not empty.
@@ -94,7 +98,11 @@ fn is_label(part: &str) -> bool
 fn has_label_bytes(bytes: &[u8]) -> bool
     ensures { result ≡ list_all (λ b. is_ascii_alphanumeric b || b == 45) bytes.now }
 {
-    bytes
-        .iter()
-        .all(|b| b.is_ascii_alphanumeric() || *b == b'-')
+    bytes.iter().all(is_label_byte)
+}
+
+fn is_label_byte(byte: &u8) -> bool
+    ensures { result ≡ (is_ascii_alphanumeric byte.now || byte.now == 45) }
+{
+    byte.is_ascii_alphanumeric() || *byte == b'-'
 }

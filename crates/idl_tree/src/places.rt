@@ -3,6 +3,7 @@ ghost use Rattle.std.specs.Str.{bytes_eq};
 ghost use Rattle.std.specs.BTreeMap.{get_by_text};
 ghost use Rattle.idl_tree.specs.Names.{Bytes};
 ghost use Rattle.idl_tree.specs.Places.{Tells, TellsPlaces, places_in};
+ghost use Rattle.idl_tree.specs.declared.spaces.Space.TheVariants.{Methods, Errors};
 
 use crate::spaces::{Space, stands_in};
 use crate::trees::Member;
@@ -10,12 +11,15 @@ use link_port::Memory;
 use std::alloc::Global;
 use std::collections::BTreeMap;
 
+// Places by name.
+type Places = BTreeMap<String, usize>;
+
 /// Where the members of each name stand.
 #[derive(Drop)]
 pub struct Index {
-    pub types: BTreeMap<String, usize>,
-    pub methods: BTreeMap<String, usize>,
-    pub errors: BTreeMap<String, usize>,
+    pub types: Places,
+    pub methods: Places,
+    pub errors: Places,
 }
 
 impl Index {
@@ -23,11 +27,18 @@ impl Index {
     pub fn of(alloc: Global, members: &[Member]) -> Result<Index, Memory>
         ensures { IfOk result (λ index. Tells index members.now) }
     {
-        Ok(Index {
-            types: places(alloc, Space::Types, members)?,
-            methods: places(alloc, Space::Methods, members)?,
-            errors: places(alloc, Space::Errors, members)?,
-        })
+        let types = places(alloc, Space::Types, members)?;
+        match methods_and_errors(alloc, members) {
+            Ok((methods, errors)) => Ok(Index {
+                types,
+                methods,
+                errors,
+            }),
+            Err(fault) => {
+                drop(types);
+                Err(fault)
+            }
+        }
     }
 
     /// The place of the first member of that name in that name space.
@@ -42,12 +53,23 @@ impl Index {
     }
 }
 
+// The places of the methods and the errors.
+fn methods_and_errors(alloc: Global, members: &[Member]) -> Result<(Places, Places), Memory>
+    ensures methods { IfOk result (λ both. TellsPlaces both.0 Methods members.now) }
+    ensures errors { IfOk result (λ both. TellsPlaces both.1 Errors members.now) }
+{
+    let methods = places(alloc, Space::Methods, members)?;
+    match places(alloc, Space::Errors, members) {
+        Ok(errors) => Ok((methods, errors)),
+        Err(fault) => {
+            drop(methods);
+            Err(fault)
+        }
+    }
+}
+
 // The place of the first member of each name in one name space.
-fn places(
-    alloc: Global,
-    space: Space,
-    members: &[Member],
-) -> Result<BTreeMap<String, usize>, Memory>
+fn places(alloc: Global, space: Space, members: &[Member]) -> Result<Places, Memory>
     ensures { IfOk result (λ places. TellsPlaces places space members.now) }
 {
     let mut places = BTreeMap::new(alloc);

@@ -4,7 +4,7 @@ ghost use Rattle.idl_tree.specs.Faults.{space_of, is_space};
 use crate::trees::Part;
 
 /// The three name spaces of an interface.
-#[derive(Debug, Clone, Copy, PartialEq, Eq)]
+#[derive(Clone, Copy)]
 pub enum Space {
     /// The types.
     Types,
