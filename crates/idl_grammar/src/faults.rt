@@ -1,9 +1,11 @@
 use idl_token::TokenFault;
 use idl_tree::NameFault;
 use link_port::Memory;
+use std::error::Error;
+use std::fmt;
 
 /// Why a text is no definition, or no type. Offsets are in bytes.
-#[derive(Drop)]
+#[derive(Debug, Drop)]
 pub enum IdlFault {
     /// The text cannot be cut into items.
     Token(TokenFault),
@@ -34,6 +36,20 @@ impl From<Memory> for IdlFault {
         IdlFault::Memory
     }
 }
+
+impl fmt::Display for IdlFault {
+    fn fmt<W: fmt::Write>(&self, f: &mut fmt::Formatter<W>) -> fmt::Result {
+        match self {
+            IdlFault::Token(fault) => write!(f, "{fault}"),
+            IdlFault::Syntax { at } => write!(f, "syntax at {at}"),
+            IdlFault::TooDeep { at } => write!(f, "too deep at {at}"),
+            IdlFault::Name(fault) => write!(f, "{fault}"),
+            IdlFault::Memory => f.write_str("out of memory"),
+        }
+    }
+}
+
+impl Error for IdlFault {}
 
 /// Why an item is not taken.
 #[derive(Drop)]

@@ -14,7 +14,7 @@ ghost use Rattle.idl_tree.specs.Form.{Form, Deep};
 use crate::faults::{IdlFault, Stop};
 use crate::steps::{is_slot, read_plain, read_slot};
 use crate::words::{text_of, trimmed};
-use idl_rules::State;
+use idl_rules::{Head, State};
 use idl_token::{Item, ItemKind, TokenFault, items};
 use idl_tree::{Checked, Interface, MOST_BRACKETS, NameFault};
 use link_port::{List, Memory, Text};
@@ -113,13 +113,23 @@ fn finished(progress: Progress, end: u64) -> Result<Interface, IdlFault>
 {
     let Progress { state, waiting } = progress;
     match state {
-        State::Between { head } => Ok(Interface {
-            notes: head.notes,
-            name: head.name,
-            members: head.members,
-            tail: waiting,
-        }),
-        _ => Err(IdlFault::Syntax { at: end }),
+        State::Between { head } => {
+            let Head {
+                notes,
+                name,
+                members,
+            } = head;
+            Ok(Interface {
+                notes,
+                name,
+                members,
+                tail: waiting,
+            })
+        }
+        state => {
+            drop((state, waiting));
+            Err(IdlFault::Syntax { at: end })
+        }
     }
 }
 
@@ -131,8 +141,13 @@ fn read_item(alloc: Global, progress: Progress, item: &Item<'_>) -> Result<Progr
 {
     let Progress { state, waiting } = progress;
     if item.kind == ItemKind::Note {
-        let waiting = with_note(alloc, waiting, item.text)?;
-        return Ok(Progress { state, waiting });
+        return match with_note(alloc, waiting, item.text) {
+            Ok(waiting) => Ok(Progress { state, waiting }),
+            Err(_) => {
+                drop(state);
+                Err(Stop::Memory)
+            }
+        };
     }
     if is_slot(&state, item) {
         let state = read_slot(alloc, state, waiting, item)?;
@@ -141,8 +156,13 @@ fn read_item(alloc: Global, progress: Progress, item: &Item<'_>) -> Result<Progr
             waiting: List::new(alloc),
         })
     } else {
-        let state = read_plain(alloc, state, item, MOST_BRACKETS)?;
-        Ok(Progress { state, waiting })
+        match read_plain(alloc, state, item, MOST_BRACKETS) {
+            Ok(state) => Ok(Progress { state, waiting }),
+            Err(stop) => {
+                drop(waiting);
+                Err(stop)
+            }
+        }
     }
 }
 
@@ -152,8 +172,16 @@ fn with_note(alloc: Global, notes: List<Text>, spelling: &[u8]) -> Result<List<T
     ensures { IfOk result (λ more. more ≡ notes ++ note_text spelling.now ∷ []) }
 {
     let mut notes = notes;
-    notes.push(note_of(alloc, spelling)?)?;
-    Ok(notes)
+    match note_of(alloc, spelling) {
+        Ok(note) => {
+            notes.push(note)?;
+            Ok(notes)
+        }
+        Err(fault) => {
+            drop(notes);
+            Err(fault)
+        }
+    }
 }
 
 // The text of a note, which follows its `#`.

@@ -1,12 +1,14 @@
-ghost use Rattle.std.specs.Prelude.{◌≡◌, not, IfOk, IsUtf8};
+ghost use Rattle.std.specs.Prelude.{◌≡◌, not, [], ◌∷◌, ◌++◌, Err, IfOk, IsUtf8};
+ghost use Rattle.idl_tree.specs.declared.trees.Body.TheVariants.{Inline};
 ghost use Rattle.idl_tree.specs.declared.trees.Prefix.TheVariants.{Maybe};
 ghost use Rattle.idl_rules.specs.declared.states.Spot.TheVariants as spot;
-ghost use Rattle.idl_rules.specs.declared.states.State.TheVariants.{Inside};
+ghost use Rattle.idl_rules.specs.declared.states.State.TheVariants.{Inside, Between};
 ghost use Rattle.idl_token.specs.Lex.{lexeme};
 ghost use Rattle.idl_tree.specs.Names.{is_field_name};
 ghost use Rattle.idl_rules.specs.Settle.{is_slot};
 ghost use Rattle.idl_rules.specs.Reading.{here, begins_at, slot_next, slot_word, slot_close, plain_next, entry_spot, body_of, word_next, type_word, sign_next, mark_spot, is_open, is_arrow, open_inner, opened, closed, finished, with_member, with_core, with_prefix, is_maybe, ends_with_maybe, takes_enum, kind_of, some_if};
 ghost use Rattle.idl_grammar.specs.Follows.{Follows, Finds};
+ghost use Rattle.idl_grammar.specs.declared.faults.Stop.TheVariants as stop;
 
 use crate::faults::Stop;
 use crate::words::{core_of, is_keyword, keyword_of, mark_of, text_of};
@@ -47,7 +49,7 @@ pub fn read_slot(
     match item.kind {
         ItemKind::Word => read_slot_word(alloc, state, notes, text_of(item.text)),
         ItemKind::Mark => read_close(alloc, state, notes),
-        ItemKind::Note => Err(Stop::Stray),
+        ItemKind::Note => stray((state, notes)),
     }
 }
 
@@ -60,10 +62,17 @@ pub fn read_plain(alloc: Global, state: State, item: &Item<'_>, most: u64) -> Re
         ItemKind::Word => read_word(alloc, state, text_of(item.text)),
         ItemKind::Mark => match mark_of(item.text) {
             Some(mark) => read_mark(alloc, state, mark, most),
-            None => Err(Stop::Stray),
+            None => stray(state),
         },
-        ItemKind::Note => Err(Stop::Stray),
+        ItemKind::Note => stray(state),
     }
+}
+
+/// Lets go of what was read, with which the item does not go on.
+pub fn stray<T: Drop, R>(_left: T) -> Result<R, Stop>
+    ensures { result ≡ Err stop.Stray }
+{
+    Err(Stop::Stray)
 }
 
 fn begins_entry(spot: &Spot) -> bool
@@ -80,7 +89,7 @@ fn read_slot_word(alloc: Global, state: State, notes: List<Text>, word: &str) ->
             if word == "interface" {
                 Ok(State::Headed { notes })
             } else {
-                Err(Stop::Stray)
+                stray(notes)
             }
         }
         State::Between { head } => match keyword_of(word) {
@@ -89,23 +98,26 @@ fn read_slot_word(alloc: Global, state: State, notes: List<Text>, word: &str) ->
                 notes,
                 keyword,
             }),
-            None => Err(Stop::Stray),
+            None => stray((head, notes)),
         },
         State::Inside {
             head,
             member,
             levels,
             spot,
-        } => {
-            let spot = read_entry(alloc, spot, notes, word)?;
-            Ok(State::Inside {
+        } => match read_entry(alloc, spot, notes, word) {
+            Ok(spot) => Ok(State::Inside {
                 head,
                 member,
                 levels,
                 spot,
-            })
-        }
-        _ => Err(Stop::Stray),
+            }),
+            Err(stop) => {
+                drop((head, member, levels));
+                Err(stop)
+            }
+        },
+        state => stray((state, notes)),
     }
 }
 
@@ -114,26 +126,43 @@ fn read_entry(alloc: Global, spot: Spot, notes: List<Text>, word: &str) -> Resul
     ensures { Finds result (entry_spot spot notes word.now) }
 {
     match spot {
-        Spot::First => {
-            let name = entry_name(alloc, word)?;
-            Ok(Spot::Only(Named { notes, name }))
-        }
-        Spot::MoreNames(mut names) => {
-            let name = entry_name(alloc, word)?;
-            names.push(Named { notes, name })?;
-            Ok(Spot::Names(names))
-        }
-        Spot::MoreFields(fields) => {
-            let name = entry_name(alloc, word)?;
-            Ok(Spot::Field(Level {
+        Spot::First => match entry_name(alloc, word) {
+            Ok(name) => Ok(Spot::Only(Named { notes, name })),
+            Err(stop) => {
+                drop(notes);
+                Err(stop)
+            }
+        },
+        Spot::MoreNames(names) => match entry_name(alloc, word) {
+            Ok(name) => Ok(Spot::Names(with_name(names, Named { notes, name })?)),
+            Err(stop) => {
+                drop((names, notes));
+                Err(stop)
+            }
+        },
+        Spot::MoreFields(fields) => match entry_name(alloc, word) {
+            Ok(name) => Ok(Spot::Field(Level {
                 fields,
                 notes,
                 name,
                 prefixes: List::new(alloc),
-            }))
-        }
-        _ => Err(Stop::Stray),
+            })),
+            Err(stop) => {
+                drop((fields, notes));
+                Err(stop)
+            }
+        },
+        spot => stray((spot, notes)),
     }
+}
+
+// The names with one more.
+fn with_name(names: List<Named>, named: Named) -> Result<List<Named>, Memory>
+    ensures { IfOk result (λ more. more ≡ names ++ named ∷ []) }
+{
+    let mut names = names;
+    names.push(named)?;
+    Ok(names)
 }
 
 // The name of an entry.
@@ -158,10 +187,15 @@ fn read_close(alloc: Global, state: State, notes: List<Text>) -> Result<State, S
             spot,
         } => {
             let takes_enum = takes_enum(&member.kind, &levels);
-            let body = body_of(alloc, spot, notes, takes_enum)?;
-            Ok(closed(alloc, head, member, levels, body)?)
+            match body_of(alloc, spot, notes, takes_enum) {
+                Ok(body) => Ok(closed(alloc, head, member, levels, body)?),
+                Err(stop) => {
+                    drop((head, member, levels));
+                    Err(stop)
+                }
+            }
         }
-        _ => Err(Stop::Stray),
+        state => stray((state, notes)),
     }
 }
 
@@ -184,14 +218,16 @@ fn body_of(alloc: Global, spot: Spot, notes: List<Text>, takes_enum: bool) -> Re
             fields: List::new(alloc),
             ending: notes,
         }),
-        Spot::Only(named) if takes_enum => {
-            let mut names = List::new(alloc);
-            names.push(named)?;
-            Ok(Body::Enum {
+        Spot::Only(named) if takes_enum => match with_name(List::new(alloc), named) {
+            Ok(names) => Ok(Body::Enum {
                 names,
                 ending: notes,
-            })
-        }
+            }),
+            Err(_) => {
+                drop(notes);
+                Err(Stop::Memory)
+            }
+        },
         Spot::Names(names) => Ok(Body::Enum {
             names,
             ending: notes,
@@ -200,7 +236,7 @@ fn body_of(alloc: Global, spot: Spot, notes: List<Text>, takes_enum: bool) -> Re
             fields,
             ending: notes,
         }),
-        _ => Err(Stop::Stray),
+        spot => stray((spot, notes)),
     }
 }
 
@@ -215,16 +251,34 @@ fn closed(
     ensures { IfOk result (λ state. state ≡ closed head member levels body) }
 {
     match levels.pop() {
-        None => finished(head, member, body),
-        Some(level) => {
-            let body = Box::new(alloc, body)?;
-            let fields = with_core(level, Core::Inline(body))?;
-            Ok(State::Inside {
+        None => {
+            drop(levels);
+            finished(head, member, body)
+        }
+        Some(level) => match with_body(alloc, level, body) {
+            Ok(fields) => Ok(State::Inside {
                 head,
                 member,
                 levels,
                 spot: Spot::Fields(fields),
-            })
+            }),
+            Err(fault) => {
+                drop((head, member, levels));
+                Err(fault)
+            }
+        },
+    }
+}
+
+// The fields with one more, whose type ends with this body.
+fn with_body(alloc: Global, level: Level, body: Body) -> Result<List<Field>, Memory>
+    ensures { IfOk result (λ fields. fields ≡ with_core level (Inline body)) }
+{
+    match Box::new(alloc, body) {
+        Ok(body) => with_core(level, Core::Inline(body)),
+        Err(fault) => {
+            drop(level);
+            Err(fault)
         }
     }
 }
@@ -259,8 +313,13 @@ fn with_member(head: Head, notes: List<Text>, name: Text, part: Part) -> Result<
     ensures { IfOk result (λ state. state ≡ with_member head notes name part) }
 {
     let mut head = head;
-    head.members.push(Member { notes, name, part })?;
-    Ok(State::Between { head })
+    match head.members.push(Member { notes, name, part }) {
+        Ok(()) => Ok(State::Between { head }),
+        Err(fault) => {
+            drop(head);
+            Err(fault)
+        }
+    }
 }
 
 // The fields with one more, whose type ends with this core.
@@ -285,8 +344,13 @@ fn with_prefix(level: Level, prefix: Prefix) -> Result<Level, Memory>
     ensures { IfOk result (λ next. next ≡ with_prefix level prefix) }
 {
     let mut level = level;
-    level.prefixes.push(prefix)?;
-    Ok(level)
+    match level.prefixes.push(prefix) {
+        Ok(()) => Ok(level),
+        Err(fault) => {
+            drop(level);
+            Err(fault)
+        }
+    }
 }
 
 // One more bracket, of at most so many.
@@ -301,6 +365,7 @@ fn opened(head: Head, member: Begun, levels: Stack<Level>, most: u64) -> Result<
             spot: Spot::First,
         })
     } else {
+        drop((head, member, levels));
         Err(Stop::Beyond)
     }
 }
@@ -310,40 +375,70 @@ fn read_word(alloc: Global, state: State, word: &str) -> Result<State, Stop>
     ensures { Follows result (word_next state word.now) }
 {
     match state {
-        State::Headed { notes } if is_interface_name(word) => Ok(State::Between {
-            head: Head {
-                notes,
-                name: Text::of(alloc, word)?,
-                members: List::new(alloc),
-            },
-        }),
+        State::Headed { notes } if is_interface_name(word) => Ok(headed(alloc, notes, word)?),
         State::Keyed {
             head,
             notes,
             keyword,
-        } if is_member_name(word) => Ok(State::Ready {
-            head,
-            member: Begun {
-                notes,
-                name: Text::of(alloc, word)?,
-                kind: kind_of(keyword),
-            },
-        }),
+        } if is_member_name(word) => match begun(alloc, notes, word, kind_of(keyword)) {
+            Ok(member) => Ok(State::Ready { head, member }),
+            Err(_) => {
+                drop(head);
+                Err(Stop::Memory)
+            }
+        },
         State::Inside {
             head,
             member,
             levels,
             spot,
-        } => {
-            let spot = read_type_word(alloc, spot, word)?;
-            Ok(State::Inside {
+        } => match read_type_word(alloc, spot, word) {
+            Ok(spot) => Ok(State::Inside {
                 head,
                 member,
                 levels,
                 spot,
-            })
+            }),
+            Err(stop) => {
+                drop((head, member, levels));
+                Err(stop)
+            }
+        },
+        state => stray(state),
+    }
+}
+
+// An interface of that name, before its members.
+fn headed(alloc: Global, notes: List<Text>, name: &str) -> Result<State, Memory>
+    ensures { IfOk result (λ state. state
+        ≡ Between (record { notes = notes; name = name.now; members = [] })) }
+{
+    match Text::of(alloc, name) {
+        Ok(name) => Ok(State::Between {
+            head: Head {
+                notes,
+                name,
+                members: List::new(alloc),
+            },
+        }),
+        Err(fault) => {
+            drop(notes);
+            Err(fault)
         }
-        _ => Err(Stop::Stray),
+    }
+}
+
+// A member of that name, before its bracket.
+fn begun(alloc: Global, notes: List<Text>, name: &str, kind: Kind) -> Result<Begun, Memory>
+    ensures { IfOk result (λ member. member
+        ≡ record { notes = notes; name = name.now; kind = kind }) }
+{
+    match Text::of(alloc, name) {
+        Ok(name) => Ok(Begun { notes, name, kind }),
+        Err(fault) => {
+            drop((notes, kind));
+            Err(fault)
+        }
     }
 }
 
@@ -362,12 +457,16 @@ fn read_type_word(alloc: Global, spot: Spot, word: &str) -> Result<Spot, Stop>
     ensures { Finds result (type_word spot word.now) }
 {
     match spot {
-        Spot::Prefixes(level) => match core_of(alloc, word)? {
-            Some(core) => Ok(Spot::Fields(with_core(level, core)?)),
-            None => Err(Stop::Stray),
+        Spot::Prefixes(level) => match core_of(alloc, word) {
+            Ok(Some(core)) => Ok(Spot::Fields(with_core(level, core)?)),
+            Ok(None) => stray(level),
+            Err(_) => {
+                drop(level);
+                Err(Stop::Memory)
+            }
         },
         Spot::Square(level) if word == "string" => Ok(Spot::Map(level)),
-        _ => Err(Stop::Stray),
+        spot => stray(spot),
     }
 }
 
@@ -398,7 +497,7 @@ fn read_mark(alloc: Global, state: State, mark: Mark, most: u64) -> Result<State
             levels,
             spot,
         } => read_mark_inside(alloc, head, member, levels, spot, mark, most),
-        _ => Err(Stop::Stray),
+        state => stray(state),
     }
 }
 
@@ -418,13 +517,18 @@ fn read_mark_inside(
         return open_inner(head, member, levels, spot, most);
     }
     let takes_enum = takes_enum(&member.kind, &levels);
-    let spot = read_inner_mark(alloc, spot, mark, takes_enum)?;
-    Ok(State::Inside {
-        head,
-        member,
-        levels,
-        spot,
-    })
+    match read_inner_mark(alloc, spot, mark, takes_enum) {
+        Ok(spot) => Ok(State::Inside {
+            head,
+            member,
+            levels,
+            spot,
+        }),
+        Err(stop) => {
+            drop((head, member, levels));
+            Err(stop)
+        }
+    }
 }
 
 fn is_open(mark: Mark) -> bool
@@ -449,14 +553,24 @@ fn open_inner(
 ) -> Result<State, Stop>
     ensures { Follows result (open_inner most head member levels spot) }
 {
-    let mut levels = levels;
     match spot {
-        Spot::Prefixes(level) => {
-            levels.push(level)?;
-            opened(head, member, levels, most)
-        }
-        _ => Err(Stop::Stray),
+        Spot::Prefixes(level) => match with_level(levels, level) {
+            Ok(levels) => opened(head, member, levels, most),
+            Err(_) => {
+                drop((head, member));
+                Err(Stop::Memory)
+            }
+        },
+        spot => stray((head, member, levels, spot)),
     }
+}
+
+fn with_level(levels: Stack<Level>, level: Level) -> Result<Stack<Level>, Memory>
+    ensures { IfOk result (λ more. more ≡ level ∷ levels) }
+{
+    let mut levels = levels;
+    levels.push(level)?;
+    Ok(levels)
 }
 
 // A mark within brackets that is no bracket.
@@ -464,16 +578,14 @@ fn read_inner_mark(alloc: Global, spot: Spot, mark: Mark, takes_enum: bool) -> R
     ensures { Finds result (mark_spot takes_enum spot mark) }
 {
     match (spot, mark) {
-        (Spot::Only(named), Mark::Colon) => Ok(Spot::Prefixes(Level {
+        (Spot::Only(Named { notes, name }), Mark::Colon) => Ok(Spot::Prefixes(Level {
             fields: List::new(alloc),
-            notes: named.notes,
-            name: named.name,
+            notes,
+            name,
             prefixes: List::new(alloc),
         })),
         (Spot::Only(named), Mark::Comma) if takes_enum => {
-            let mut names = List::new(alloc);
-            names.push(named)?;
-            Ok(Spot::MoreNames(names))
+            Ok(Spot::MoreNames(with_name(List::new(alloc), named)?))
         }
         (Spot::Names(names), Mark::Comma) => Ok(Spot::MoreNames(names)),
         (Spot::Fields(fields), Mark::Comma) => Ok(Spot::MoreFields(fields)),
@@ -486,7 +598,7 @@ fn read_inner_mark(alloc: Global, spot: Spot, mark: Mark, takes_enum: bool) -> R
         (Spot::Map(level), Mark::RightSquare) => {
             Ok(Spot::Prefixes(with_prefix(level, Prefix::Map)?))
         }
-        _ => Err(Stop::Stray),
+        (spot, _) => stray(spot),
     }
 }
 
@@ -496,7 +608,7 @@ fn with_maybe(level: Level) -> Result<Spot, Stop>
         (some_if (not (ends_with_maybe level.prefixes)) (spot.Prefixes (with_prefix level Maybe))) }
 {
     if ends_with_maybe(level.prefixes.as_slice()) {
-        return Err(Stop::Stray);
+        return stray(level);
     }
     Ok(Spot::Prefixes(with_prefix(level, Prefix::Maybe)?))
 }

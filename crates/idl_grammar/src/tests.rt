@@ -1,8 +1,8 @@
 use crate::{IdlFault, one_cause, read, read_type};
 use idl_token::TokenFault;
-use idl_tree::{Core, NameFault, Prefix};
+use idl_tree::{Checked, NameFault};
 use std::alloc::{AllocError, Global};
-use std::test::Fail;
+use std::process::Abort;
 
 #[test]
 fn law_may_be_called(_rt: HostRuntime) {
@@ -30,28 +30,14 @@ fn tells_what_a_text_is(rt: HostRuntime) {
         ("", "syntax", 0),
     ];
     for (text, word, at) in rows {
-        let (found, place) = told(rt.alloc(), text.as_bytes());
-        assert!(rt; found == word, "{text}");
-        assert_eq!(rt; place, at);
+        assert!(rt; told(rt.alloc(), text.as_bytes()) == (word, at), "{text}");
     }
-}
-
-#[test]
-fn takes_brackets_of_a_depth_and_prefixes_of_any_number(rt: HostRuntime) -> Result<(), Fail> {
-    let head = "interface a.b type T ";
-    let deep = nested(rt.alloc(), head, "(a: ", 65, ")")?;
-    assert!(rt; told(rt.alloc(), deep.as_bytes()) == ("too deep", 277));
-    let lawful = nested(rt.alloc(), head, "(a: ", 64, ")")?;
-    assert!(rt; told(rt.alloc(), lawful.as_bytes()) == ("accepted", 0));
-    let long = nested(rt.alloc(), head, "[]", 100_000, "")?;
-    assert!(rt; told(rt.alloc(), long.as_bytes()) == ("syntax", 21));
-    Ok(())
 }
 
 #[test]
 fn tells_what_a_text_is_as_a_type(rt: HostRuntime) {
     let rows = [
-        (b"int".as_slice(), "accepted", 0),
+        (b"[string]?int".as_slice(), "accepted", 2),
         (b"int int".as_slice(), "syntax", 4),
         (b"# x".as_slice(), "syntax", 0),
         (b"A".as_slice(), "unknown type", 0),
@@ -63,33 +49,37 @@ fn tells_what_a_text_is_as_a_type(rt: HostRuntime) {
         (b"int\xff".as_slice(), "not UTF-8", 3),
     ];
     for (text, word, at) in rows {
-        let (found, place) = told_of_type(rt.alloc(), text);
-        assert!(rt; found == word, "{word} {at}");
-        assert_eq!(rt; place, at);
+        assert!(rt; told_of_type(rt.alloc(), text) == (word, at), "{word} {at}");
     }
 }
 
 #[test]
-fn takes_brackets_of_a_depth_in_a_type(rt: HostRuntime) -> Result<(), Fail> {
-    let deep = nested(rt.alloc(), "", "(a:", 65, ")")?;
-    assert!(rt; told_of_type(rt.alloc(), deep.as_bytes()) == ("too deep", 192));
-    let lawful = nested(rt.alloc(), "", "(a:", 64, ")")?;
-    assert!(rt; told_of_type(rt.alloc(), lawful.as_bytes()) == ("accepted", 0));
-    Ok(())
+fn takes_brackets_of_a_depth_and_prefixes_of_any_number(rt: HostRuntime) {
+    let rows = [
+        ("(a: ", 65, ")", "too deep", 277),
+        ("(a: ", 64, ")", "accepted", 0),
+        ("[]", 100_000, "", "syntax", 21),
+    ];
+    for (open, count, close, word, at) in rows {
+        match nested(rt.alloc(), "interface a.b type T ", open, count, close) {
+            Ok(text) => is_told(&rt, told(rt.alloc(), text.as_bytes()), (word, at)),
+            Err(_) => assert!(rt; false, "out of memory"),
+        }
+    }
 }
 
 #[test]
-fn gives_the_prefixes_and_the_core_of_a_type(rt: HostRuntime) {
-    match read(rt.alloc(), b"interface a.b") {
-        Ok(scope) => match read_type(rt.alloc(), b"[string]?int", &scope) {
-            Ok(of) => {
-                assert!(rt; matches!(of.prefixes.as_slice(), [Prefix::Map, Prefix::Maybe]));
-                assert!(rt; matches!(of.core, Core::Int));
-            }
-            Err(_) => assert!(rt; false, "it is a type"),
-        },
-        Err(_) => assert!(rt; false, "it is a definition"),
+fn takes_brackets_of_a_depth_in_a_type(rt: HostRuntime) {
+    for (count, word, at) in [(65, "too deep", 192), (64, "accepted", 0)] {
+        match nested(rt.alloc(), "", "(a:", count, ")") {
+            Ok(text) => is_told(&rt, told_of_type(rt.alloc(), text.as_bytes()), (word, at)),
+            Err(_) => assert!(rt; false, "out of memory"),
+        }
     }
+}
+
+fn is_told(rt: &impl Abort, found: (&str, u64), wanted: (&str, u64)) {
+    assert!(rt; found == wanted);
 }
 
 // A text in front, so many of one part, `int`, and so many of another.
@@ -114,28 +104,50 @@ fn nested(
 // What the text is, and the offset that is told.
 fn told(alloc: Global, text: &[u8]) -> (&'static str, u64) {
     match read(alloc, text) {
-        Ok(_) => ("accepted", 0),
-        Err(fault) => word_of(fault),
+        Ok(checked) => {
+            drop(checked);
+            ("accepted", 0)
+        }
+        Err(fault) => refusal(fault),
     }
 }
 
-// What the text is as a type where no other is defined, and the offset that is told.
+// What the text is as a type where no other is defined, and the offset that is told; of a type the
+// number of its prefixes.
 fn told_of_type(alloc: Global, text: &[u8]) -> (&'static str, u64) {
     match read(alloc, b"interface a.b") {
-        Ok(scope) => match read_type(alloc, text, &scope) {
-            Ok(_) => ("accepted", 0),
-            Err(fault) => word_of(fault),
-        },
-        Err(_) => ("no scope", 0),
+        Ok(scope) => {
+            let told = told_in(alloc, text, &scope);
+            drop(scope);
+            told
+        }
+        Err(fault) => refusal(fault),
     }
 }
 
-fn word_of(fault: IdlFault) -> (&'static str, u64) {
+fn told_in(alloc: Global, text: &[u8], scope: &Checked) -> (&'static str, u64) {
+    match read_type(alloc, text, scope) {
+        Ok(of) => {
+            let prefixes = of.prefixes.len();
+            drop(of);
+            ("accepted", prefixes)
+        }
+        Err(fault) => refusal(fault),
+    }
+}
+
+fn refusal(fault: IdlFault) -> (&'static str, u64) {
+    let told = word_of(&fault);
+    drop(fault);
+    told
+}
+
+fn word_of(fault: &IdlFault) -> (&'static str, u64) {
     match fault {
-        IdlFault::Token(TokenFault::NotUtf8 { at }) => ("not UTF-8", at),
-        IdlFault::Token(TokenFault::BadByte { at }) => ("bad byte", at),
-        IdlFault::Syntax { at } => ("syntax", at),
-        IdlFault::TooDeep { at } => ("too deep", at),
+        IdlFault::Token(TokenFault::NotUtf8 { at }) => ("not UTF-8", *at),
+        IdlFault::Token(TokenFault::BadByte { at }) => ("bad byte", *at),
+        IdlFault::Syntax { at } => ("syntax", *at),
+        IdlFault::TooDeep { at } => ("too deep", *at),
         IdlFault::Name(NameFault::TwiceType(_)) => ("type twice", 0),
         IdlFault::Name(NameFault::TwiceField(_)) => ("field twice", 0),
         IdlFault::Name(NameFault::UnknownType(_)) => ("unknown type", 0),

@@ -1,11 +1,11 @@
-ghost use Rattle.std.specs.Prelude.{◌≡◌, [], if◌then◌else◌, IfOk, IsUtf8, All};
+ghost use Rattle.std.specs.Prelude.{◌≡◌, [], None, if◌then◌else◌, IfOk, IsUtf8, All};
 ghost use Rattle.idl_token.specs.Lex.{lexeme};
 ghost use Rattle.idl_tree.specs.declared.trees.TypeRef.{TypeRef};
 ghost use Rattle.idl_tree.specs.Faults.{type_fault, defines};
 ghost use Rattle.idl_rules.specs.Settle.{is_slot};
 ghost use Rattle.idl_rules.specs.Reading.{Stray, here, slot_next, plain_next};
 ghost use Rattle.idl_types.specs.Types.{AcceptsType};
-ghost use Rattle.idl_types.specs.TypeReading.{at_type, is_whole_type, type_next, type_read};
+ghost use Rattle.idl_types.specs.TypeReading.{at_type, outer_head, outer_member, outer_level, is_whole_type, type_next, type_read};
 ghost use Rattle.idl_grammar.specs.Follows.{Follows};
 ghost use Rattle.idl_grammar.specs.declared.faults.IdlFault.{IdlFault};
 ghost use Rattle.idl_grammar.specs.Refuses.{Tells};
@@ -14,7 +14,7 @@ ghost use Rattle.idl_grammar.specs.FollowsType.{TypeOf, ChecksType, ReadsType, E
 
 use crate::faults::{IdlFault, Stop};
 use crate::reader::{name_fault, token_fault};
-use crate::steps::{is_slot, read_plain, read_slot};
+use crate::steps::{is_slot, read_plain, read_slot, stray};
 use idl_rules::{Begun, Head, Kind, Level, Spot, Stack, State};
 use idl_token::{Item, ItemKind, items};
 use idl_tree::{Checked, Field, MOST_BRACKETS, TypeRef};
@@ -81,24 +81,56 @@ fn read_type_items(alloc: Global, items: &[Item<'_>], end: u64) -> Result<TypeRe
 fn type_start(alloc: Global) -> Result<State, Memory>
     ensures { IfOk result (λ state. state ≡ at_type) }
 {
-    Ok(State::Inside {
-        head: Head {
-            notes: List::new(alloc),
-            name: Text::of(alloc, "a.b")?,
-            members: List::new(alloc),
-        },
-        member: Begun {
-            notes: List::new(alloc),
-            name: Text::of(alloc, "A")?,
-            kind: Kind::Shape,
-        },
-        levels: Stack::new(alloc),
-        spot: Spot::Prefixes(Level {
-            fields: List::new(alloc),
-            notes: List::new(alloc),
-            name: Text::of(alloc, "a")?,
-            prefixes: List::new(alloc),
+    let (head, member) = outer_member(alloc)?;
+    match outer_level(alloc) {
+        Ok(level) => Ok(State::Inside {
+            head,
+            member,
+            levels: Stack::new(alloc),
+            spot: Spot::Prefixes(level),
         }),
+        Err(fault) => {
+            drop((head, member));
+            Err(fault)
+        }
+    }
+}
+
+// interface a.b type A
+fn outer_member(alloc: Global) -> Result<(Head, Begun), Memory>
+    ensures { IfOk result (λ outer. outer ≡ (outer_head, outer_member)) }
+{
+    let name = Text::of(alloc, "a.b")?;
+    match Text::of(alloc, "A") {
+        Ok(member) => Ok((
+            Head {
+                notes: List::new(alloc),
+                name,
+                members: List::new(alloc),
+            },
+            Begun {
+                notes: List::new(alloc),
+                name: member,
+                kind: Kind::Shape,
+            },
+        )),
+        Err(fault) => {
+            drop(name);
+            Err(fault)
+        }
+    }
+}
+
+// (a:
+fn outer_level(alloc: Global) -> Result<Level, Memory>
+    ensures { IfOk result (λ level. level ≡ outer_level) }
+{
+    let name = Text::of(alloc, "a")?;
+    Ok(Level {
+        fields: List::new(alloc),
+        notes: List::new(alloc),
+        name,
+        prefixes: List::new(alloc),
     })
 }
 
@@ -109,7 +141,7 @@ fn take_type_item(alloc: Global, state: State, item: &Item<'_>) -> Result<State,
 {
     match item.kind {
         ItemKind::Word | ItemKind::Mark => take_type_part(alloc, state, item),
-        ItemKind::Note => Err(Stop::Stray),
+        ItemKind::Note => stray(state),
     }
 }
 
@@ -122,7 +154,7 @@ fn take_type_part(alloc: Global, state: State, item: &Item<'_>) -> Result<State,
         else plain_next 65 state (lexeme item.now))) }
 {
     if is_whole_type(&state) {
-        Err(Stop::Stray)
+        stray(state)
     } else if is_slot(&state, item) {
         read_slot(alloc, state, List::new(alloc), item)
     } else {
@@ -158,11 +190,20 @@ fn type_read(state: State) -> Option<TypeRef>
     ensures { result ≡ type_read state }
 {
     match state {
-        State::Inside { levels, spot, .. } => match spot {
-            Spot::Fields(fields) if levels.len() == 0 => only_type(fields),
-            _ => None,
-        },
-        _ => None,
+        State::Inside {
+            head,
+            member,
+            levels,
+            spot,
+        } => {
+            let is_outermost = levels.len() == 0;
+            drop((head, member, levels));
+            match spot {
+                Spot::Fields(fields) if is_outermost => only_type(fields),
+                spot => no_type(spot),
+            }
+        }
+        state => no_type(state),
     }
 }
 
@@ -172,7 +213,17 @@ fn only_type(fields: List<Field>) -> Option<TypeRef>
 {
     let mut fields = fields.into_vec();
     match fields.pop() {
-        Some(field) if fields.len() == 0 => Some(field.of),
-        _ => None,
+        Some(Field { notes, name, of }) if fields.len() == 0 => {
+            drop((notes, name, fields));
+            Some(of)
+        }
+        last => no_type((last, fields)),
     }
+}
+
+// Lets go of what was read, which is no whole type.
+fn no_type<T: Drop>(_left: T) -> Option<TypeRef>
+    ensures { result ≡ None }
+{
+    None
 }
