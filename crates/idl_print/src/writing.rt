@@ -10,6 +10,8 @@ use crate::printing::text;
 use idl_tree::Checked;
 use link_port::{Memory, Short, Sink, put_all};
 use std::alloc::Global;
+use std::error::Error;
+use std::fmt;
 
 /// Why a definition was not written whole.
 #[derive(Debug, Clone, Copy, PartialEq, Eq)]
@@ -30,6 +32,17 @@ impl From<Memory> for PrintFault {
         PrintFault::Memory
     }
 }
+
+impl fmt::Display for PrintFault {
+    fn fmt<W: fmt::Write>(&self, f: &mut fmt::Formatter<W>) -> fmt::Result {
+        match self {
+            PrintFault::Short(short) => write!(f, "cut off after {} bytes", short.written),
+            PrintFault::Memory => f.write_str("out of memory"),
+        }
+    }
+}
+
+impl Error for PrintFault {}
 
 /// Appends the canonical text of the definition to the sink.
 pub fn write<K: Sink>(alloc: Global, tree: &Checked, sink: &mut K) -> Result<(), PrintFault>
