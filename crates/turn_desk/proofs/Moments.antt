@@ -12,7 +12,7 @@ use Rattle.turn_desk.specs.declared.views.Stage.{Stage}
 use Rattle.turn_desk.specs.declared.views.Stage.TheVariants.{Gone, Idle, Waits, Has, Numbered, Joined}
 use Rattle.turn_desk.specs.declared.views.View.{View}
 use Rattle.turn_desk.specs.Histories.{NoneOf, GoesOn}
-use Rattle.turn_desk.specs.Turns.{Moment, numbers_of, Lives, Queues, Fresh, Both, book_of, KnowsAt, Knows, Signed}
+use Rattle.turn_desk.specs.Turns.{Moment, numbers_of, Lives, Queues, Fresh, Both, KnowsAt, Knows, Signed, HasTicket, Held}
 use Rattle.turn_desk.proofs.Lists.{goes_on_more, at_below}
 
 -- from one moment to the next, nothing that concerns this seat has changed
@@ -61,29 +61,29 @@ module _ {O R : Type 0} (now next : Moment R) (seat : ℕ) (v : View O R) (still
     apart = k.apart;
   }
 
-  knows_stays : (after : O → R → O) (weigh : R → ℕ) (start : O) (stage : Stage O R) → KnowsAt after weigh start now seat v stage → KnowsAt after weigh start next seat v stage
-  knows_stays after weigh start Gone k = k
-  knows_stays after weigh start Idle k = lives_stays start k
-  knows_stays after weigh start (Waits t) k = (lives_stays start k.0, queue_stays t k.1)
-  knows_stays after weigh start (Has t b) k =
+  knows_stays : (start : O) (stage : Stage R) → KnowsAt start now seat v stage → KnowsAt start next seat v stage
+  knows_stays start Gone k = k
+  knows_stays start Idle k = lives_stays start k
+  knows_stays start (Waits t) k = (lives_stays start k.0, queue_stays t k.1)
+  knows_stays start (Has t log) k =
       let q = k.1 in let t_is = k.2 in
       let low : now.serving < now.drawn = let below = q.below in omega arith in
       let same = still.turn (ap now.owner (sym t_is) ∙ q.mine) low in
-      (lives_stays start k.0, queue_stays t q, t_is ∙ sym same.0, k.3 ∙ ap (book_of after weigh start) (sym same.1))
-  knows_stays after weigh start (Numbered n) k = (lives_stays start k.0, fresh_stays n k.1)
-  knows_stays after weigh start (Joined one other numbers others) k = (lives_stays start k.0, both_stays start one other numbers others k.0 k.1)
+      (lives_stays start k.0, queue_stays t q, t_is ∙ sym same.0, k.3 ∙ sym same.1)
+  knows_stays start (Numbered n) k = (lives_stays start k.0, fresh_stays n k.1)
+  knows_stays start (Joined one other numbers others) k = (lives_stays start k.0, both_stays start one other numbers others k.0 k.1)
 
-  pub others_know : (after : O → R → O) (weigh : R → ℕ) (start : O) → Knows after weigh start now seat v → Knows after weigh start next seat v
-  others_know after weigh start = knows_stays after weigh start v.stage
+  pub others_know : (start : O) → Knows start now seat v → Knows start next seat v
+  others_know start = knows_stays start v.stage
 
 module _ {O R : Type 0} where
   -- after a change of one view, each seat knows what it should
-  pub all_know : (after : O → R → O) (weigh : R → ℕ) (start : O) (now next : Moment R) (views : List (View O R)) (id : ℕ) (w : View O R)
-      → ((seat : ℕ) (v : View O R) → get_elem? views seat ≡ some v → Knows after weigh start now seat v) → Knows after weigh start next id w → ((seat : ℕ) → seat ≢ id → Still now next seat)
-      → (seat : ℕ) (v : View O R) → get_elem? (set views id w) seat ≡ some v → Knows after weigh start next seat v
-  all_know after weigh start now next views id w each mine still seat v at =
-      ⊎_elim (λ (t : (seat ≡ id) × (w ≡ v)). subst (λ (z : ℕ × View O R). Knows after weigh start next z.0 z.1) (λ i. (sym t.0 i, t.1 i)) mine)
-      (λ (t : (seat ≢ id) × (get_elem? views seat ≡ some v)). others_know now next seat v (still seat t.0) after weigh start (each seat v t.1)) (at_set views id seat w v at)
+  pub all_know : (start : O) (now next : Moment R) (views : List (View O R)) (id : ℕ) (w : View O R)
+      → ((seat : ℕ) (v : View O R) → get_elem? views seat ≡ some v → Knows start now seat v) → Knows start next id w → ((seat : ℕ) → seat ≢ id → Still now next seat)
+      → (seat : ℕ) (v : View O R) → get_elem? (set views id w) seat ≡ some v → Knows start next seat v
+  all_know start now next views id w each mine still seat v at =
+      ⊎_elim (λ (t : (seat ≡ id) × (w ≡ v)). subst (λ (z : ℕ × View O R). Knows start next z.0 z.1) (λ i. (sym t.0 i, t.1 i)) mine)
+      (λ (t : (seat ≢ id) × (get_elem? views seat ≡ some v)). others_know now next seat v (still seat t.0) start (each seat v t.1)) (at_set views id seat w v at)
 
   -- a signature stays where the view that changed keeps its numbers and what it has spent
   pub signed_stays : (views : List (View O R)) (id : ℕ) (v w : View O R) → get_elem? views id ≡ some v → ((n : ℕ) → Contains (numbers_of v) n → Contains (numbers_of w) n) → v.spent ≤ w.spent
@@ -100,3 +100,12 @@ module _ {O R : Type 0} where
         omega arith,
       ))
       (λ other. (s.0, set_else views id seat w other ∙ s.1, s.2, s.3))
+
+  -- a ticket stays in hand where the view that changed keeps it
+  pub held_stays : (views : List (View O R)) (id : ℕ) (v w : View O R) → get_elem? views id ≡ some v → (seat t : ℕ) → (HasTicket v.stage t → HasTicket w.stage t) → Held views seat t → Held (set views id w) seat t
+  held_stays views id v w at seat t keeps h =
+      dite (ℕ_discrete seat id)
+      (λ same.
+      let is : h.0 ≡ v = some-injective h.0 v (sym h.1 ∙ (ap (get_elem? views) same ∙ at)) in
+      (w, ap (get_elem? (set views id w)) same ∙ set_here views id w (at_below views id v at), keeps (subst (λ (z : View O R). HasTicket z.stage t) is h.2)))
+      (λ other. (h.0, set_else views id seat w other ∙ h.1, h.2))

@@ -1,4 +1,5 @@
-ghost use Rattle.std.specs.Prelude.{◌≡◌, ◌≢◌, ◌↔◌, ℕ, ◌+◌, ◌-◌, ◌^◌, ◌<◌, ◌≤◌, [], ◌∷◌, ◌++◌};
+//! The public calls of a desk.
+ghost use Rattle.std.specs.Prelude.{◌≡◌, ◌↔◌, ℕ, ◌+◌, ◌-◌, ◌^◌, ◌<◌, ◌≤◌, [], ◌∷◌, ◌++◌};
 ghost use Rattle.std.specs.Prelude.{All, Contains, IfOk, OnOk, OnErr, Some, Err};
 ghost use Rattle.turn_desk.specs.Asks.{SeesOwn, SeesOthers};
 ghost use Rattle.turn_desk.specs.Histories.{state_of, IsReply, weight_of, AllGood, Apart};
@@ -6,28 +7,31 @@ ghost use Rattle.turn_desk.specs.Passes.{IsOf, IsSamePass, all_asks, carried, ow
 ghost use Rattle.turn_desk.specs.Passes.{first_pass, split_off, split_to, united};
 
 use crate::faults::AskFault;
+use crate::ledgers::Ledger;
 use crate::objects::{Entry, Object};
 use crate::passes::{Holder, Pass};
-use crate::plays::{BOOK, NEXT_NUMBER, NEXT_TICKET, Number, Settle, Unite, Words};
+use crate::plays::{BOOK, NEXT_NUMBER, NEXT_TICKET, Number, Recall, SERVED, Settle, Unite, Words};
 use crate::splits::cut;
 use crate::turns::ask_in_turn;
 use crate::views::Book;
 use atomic_table::Table;
-use link_port::{List, Memory};
+use link_port::Memory;
 use std::alloc::Global;
 use std::marker::{Brand, Model};
 use std::snapshot::Snapshot;
-use std::sync::Wait;
+use std::sync::{Mutex, Wait};
 
-/// One object that many threads ask in turn, with a limit on what its history may weigh. It is shared
-/// by `&`, and each thread has a pass of its own.
+/// One object that many threads ask in turn, with a limit on what its history may weigh and a ledger of
+/// that history. It is shared by `&`, and each thread has a pass of its own.
 #[derive(Drop)]
-pub struct Desk<O: Object> {
-    table: Words<O>,
+pub struct Desk<O: Object, L: Ledger<O::Request>> {
+    table: Words<O, L>,
     limit: u64,
+    /// Lets those who wait sleep. No fact about the history rests on it.
+    gate: Mutex<()>,
 }
 
-impl<O: Object> Model for Desk<O> {
+impl<O: Object, L: Ledger<O::Request>> Model for Desk<O, L> {
     ghost use Rattle.std.specs.Prelude.{◌≡◌};
     ghost use Rattle.turn_desk.specs.Passes.{DeskView};
 
@@ -40,9 +44,9 @@ impl<O: Object> Model for Desk<O> {
     ghost invariant = { λ d. IsLaid d.table.shared.table_id };
 }
 
-impl<O: Object> Desk<O> {
+impl<O: Object, L: Ledger<O::Request>> Desk<O, L> {
     /// Puts the object under a desk whose history may weigh `limit`, and gives the first pass.
-    pub fn start(alloc: Global, object: O, limit: u64) -> Result<(Desk<O>, Pass<O>), Memory>
+    pub fn start(alloc: Global, object: O, limit: u64) -> Result<(Desk<O, L>, Pass<O, L>), Memory>
         requires { limit ≤ 2 ^ 62 }
         ensures desk { IfOk result (λ r. (r.0.start ≡ object) × (r.0.limit ≡ limit)) }
         ensures pass { IfOk result (λ r. r.1 ≡ first_pass r.0) }
@@ -52,8 +56,9 @@ impl<O: Object> Desk<O> {
         let key = Snapshot::of(&object);
         slots.push_reserved(Some(Book {
             object,
-            entries: List::new(alloc),
+            ledger: L::new(alloc),
             weight: 0,
+            added: None,
         }));
         let Ok((table, seat)) = Table::new(alloc, &[0, 0, 1], slots, &key) else {
             return Err(Memory);
@@ -64,7 +69,8 @@ impl<O: Object> Desk<O> {
             left: 1 << 62,
             asked: 0,
         };
-        Ok((Desk { table, limit }, pass))
+        let gate = Mutex::new(());
+        Ok((Desk { table, limit, gate }, pass))
     }
 
     /// Waits for a turn of its own, and answers one good request in it.
@@ -72,7 +78,8 @@ impl<O: Object> Desk<O> {
     pub fn ask<R: Wait>(
         &self,
         rt: &R,
-        pass: &mut Pass<O>,
+        alloc: Global,
+        pass: &mut Pass<O, L>,
         request: O::Request,
     ) -> Result<O::Reply, AskFault>
         requires pass { IsOf self.now pass.old }
@@ -90,16 +97,20 @@ impl<O: Object> Desk<O> {
         ensures same { result ≡ Err AskFault.Worn → pass.new ≡ pass.old }
         ensures bytes { (n : ℕ) → result ≡ Err (AskFault.Full n) → n ≡ weight_of O.weigh pass.new.seen }
         ensures full { (n : ℕ) → result ≡ Err (AskFault.Full n) → self.now.limit < n + O.weigh request }
-        ensures good { result ≢ Err AskFault.Worn → AllGood O.good self.now.start pass.new.seen }
+        ensures good { AllGood O.good self.now.start pass.new.seen }
     {
+        let shared = &self.table.shared;
         if pass.left == 0 {
+            shared.load::<Recall<O>>(&mut pass.seat, SERVED);
             return Err(AskFault::Worn);
         }
         let entry = Entry {
             pass: pass.number,
             request,
         };
-        let reply = ask_in_turn(rt, &self.table.shared, self.limit, &mut pass.seat, entry);
+        let turn = self.gate.lock(rt);
+        let reply = ask_in_turn(rt, alloc, shared, self.limit, &mut pass.seat, entry);
+        drop(turn);
         pass.left -= 1;
         pass.asked += 1;
         reply
@@ -107,7 +118,7 @@ impl<O: Object> Desk<O> {
 
     /// Makes a pass with a number of its own, which has seen what this one has seen, and hands it so
     /// many asks. That spends one more ask. It takes no memory.
-    pub fn split(&self, pass: &mut Pass<O>, asks: u64) -> Pass<O>
+    pub fn split(&self, pass: &mut Pass<O, L>, asks: u64) -> Pass<O, L>
         requires pass { IsOf self.now pass.old }
         requires asks { asks < pass.old.left }
         ensures kept { pass.new ≡ split_off asks pass.old }
@@ -115,10 +126,11 @@ impl<O: Object> Desk<O> {
         ensures number { result.number ≤ 2 ^ 62 }
         ensures other { ¬ Contains (carried pass.old) result.number }
         ensures none { own_requests result ≡ [] }
+        ensures good { AllGood O.good self.now.start pass.new.seen }
     {
         let shared = &self.table.shared;
-        let number = shared.fetch_add::<Number>(&mut pass.seat, NEXT_NUMBER, 1);
-        let seat = cut::<O, Brand>(shared, &mut pass.seat, asks);
+        let number = shared.fetch_add::<Number<O>>(&mut pass.seat, NEXT_NUMBER, 1);
+        let seat = cut::<O, L, Brand>(shared, &mut pass.seat, asks);
         pass.left -= asks + 1;
         pass.asked += 1;
         Holder {
@@ -131,13 +143,14 @@ impl<O: Object> Desk<O> {
 
     /// Joins another pass into this one, which carries its numbers and has its asks from now on, and
     /// has seen the longer of the two histories. It takes no memory.
-    pub fn join(&self, pass: &mut Pass<O>, other: Pass<O>)
+    pub fn join(&self, pass: &mut Pass<O, L>, other: Pass<O, L>)
         requires pass { IsOf self.now pass.old }
         requires other { IsOf self.now other }
         ensures pass { pass.new ≡ united pass.old other }
         ensures first { SeesOthers pass.old pass.new }
         ensures second { SeesOthers other pass.new }
         ensures apart { Apart (carried pass.old) (carried other) }
+        ensures good { AllGood O.good self.now.start pass.new.seen }
     {
         let Holder {
             seat,
@@ -147,22 +160,26 @@ impl<O: Object> Desk<O> {
         } = other;
         let shared = &self.table.shared;
         shared.join_seat::<Unite>(&mut pass.seat, seat);
-        shared.load::<Settle>(&mut pass.seat, NEXT_TICKET);
+        shared.load::<Settle<O>>(&mut pass.seat, NEXT_TICKET);
         pass.left += left;
         pass.asked += asked;
     }
 
     /// Ends the desk by a pass that has all asks, which one has once every other pass was joined into
-    /// it. Gives the object and the history.
-    pub fn close(self, pass: Pass<O>) -> (O, List<Entry<O::Request>>)
+    /// it. Gives the object and the ledger of the history.
+    pub fn close(self, pass: Pass<O, L>) -> (O, L)
         requires pass { IsOf self pass }
         requires all { all_asks pass ≡ 2 ^ 62 }
-        ensures history { result.1 ≡ pass.seen }
+        ensures history { L.stands_for result.1 pass.seen }
         ensures state { result.0 ≡ state_of O.after self.start pass.seen }
         ensures numbers { All (λ e. Contains (carried pass) e.pass) pass.seen }
         ensures good { AllGood O.good self.start pass.seen }
     {
-        let Desk { table, limit: _ } = self;
+        let Desk {
+            table,
+            limit: _,
+            gate: _,
+        } = self;
         let Holder {
             seat,
             number: _,
@@ -174,9 +191,10 @@ impl<O: Object> Desk<O> {
         closed.free();
         let Book {
             object,
-            entries,
+            ledger,
             weight: _,
+            added: _,
         } = slot.unwrap();
-        (object, entries)
+        (object, ledger)
     }
 }

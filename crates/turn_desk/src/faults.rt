@@ -1,3 +1,4 @@
+//! Why an ask had no reply.
 use link_port::Memory;
 use std::alloc::AllocError;
 

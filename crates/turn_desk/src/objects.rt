@@ -1,6 +1,8 @@
+//! What stands under a desk, and an entry of its history.
 ghost use Rattle.std.specs.Prelude.{◌≡◌, ℕ, ◌↔◌, OnOk, OnErr, IfOk};
 
 use link_port::Memory;
+use std::alloc::Global;
 
 /// A value that changes in steps, each of which answers one request.
 pub trait Object: Drop {
@@ -23,7 +25,7 @@ pub trait Object: Drop {
     ghost weigh: { Self.Request → ℕ };
 
     /// Answers a good request. After want of memory the state is as before.
-    fn step(&mut self, request: &Self::Request) -> Result<Self::Reply, Memory>
+    fn step(&mut self, alloc: Global, request: &Self::Request) -> Result<Self::Reply, Memory>
         requires { good self.old request.now }
         ensures reply { IfOk result (λ r. r ≡ answer self.old request.now) }
         ensures state { OnOk result (self.new ≡ after self.old request.now) }

@@ -1,3 +1,4 @@
+//! The right to ask.
 ghost use Rattle.std.specs.Prelude.{◌≡◌};
 
 use crate::objects::Object;
@@ -7,14 +8,14 @@ use std::marker::Model;
 /// The right to ask a desk so many times, which one thread at a time has. It has a number, and has
 /// seen a history.
 #[derive(Drop)]
-pub struct Holder<O, R> {
-    pub(crate) seat: Place<O, R>,
+pub struct Holder<O, L, R> {
+    pub(crate) seat: Place<O, L, R>,
     pub(crate) number: u64,
     pub(crate) left: u64,
     pub(crate) asked: u64,
 }
 
-impl<O, R> Model for Holder<O, R> {
+impl<O, L, R> Model for Holder<O, L, R> {
     ghost use Rattle.std.specs.Prelude.{◌≡◌, ℕ, ◌+◌, ◌^◌, ◌≤◌, []};
     ghost use Rattle.turn_desk.specs.Passes.{PassView};
 
@@ -27,10 +28,10 @@ impl<O, R> Model for Holder<O, R> {
     ghost invariant = { λ p. IsIdle p.seat p.number p.left p.asked };
 }
 
-/// A pass of a desk over such objects.
-pub type Pass<O> = Holder<O, <O as Object>::Request>;
+/// A pass of a desk over such objects, with such a ledger.
+pub type Pass<O, L> = Holder<O, L, <O as Object>::Request>;
 
-impl<O, R> Holder<O, R> {
+impl<O, L, R> Holder<O, L, R> {
     /// The number of the pass, which stands in each entry that it makes.
     pub fn number(&self) -> u64
         ensures { result ≡ self.now.number }

@@ -1,8 +1,9 @@
 //! The table that the threads share: its three words and its one slot, its rule, and what each kind
 //! of step tells the one that takes it.
 ghost use Rattle.std.specs.Prelude.{ℕ};
-ghost use Rattle.turn_desk.specs.Turns.{drew, looked, passed, numbered, settled, split_kept, split_given, joined, gone};
+ghost use Rattle.turn_desk.specs.Turns.{drew, looked, passed, numbered, settled, recalled, split_kept, split_given, joined, gone};
 
+use crate::ledgers::Ledger;
 use crate::objects::Object;
 use crate::views::{Book, View};
 use atomic_table::{Join, Play, Seat, Split, Table, TableRule};
@@ -23,68 +24,86 @@ pub const NEXT_NUMBER: usize = 2;
 pub const BOOK: usize = 0;
 
 /// What the slot holds: the book, or nothing while a thread has it.
-pub type Slot<O, R> = Option<Book<O, R>>;
+pub type Slot<O, L, R> = Option<Book<O, L, R>>;
 
 /// A seat at the table, of which each pass has one.
-pub type Place<O, R> = Seat<Slot<O, R>, View<O, R>>;
+pub type Place<O, L, R> = Seat<Slot<O, L, R>, View<O, R>>;
 
 /// The rule: one history, and one turn at a time.
-pub struct OneHistory<O> {
-    object: PhantomData<O>,
+pub struct OneHistory<O, L> {
+    object: PhantomData<(O, L)>,
 }
 
-impl<O: Object> TableRule<Slot<O, O::Request>, View<O, O::Request>, Snapshot<O>> for OneHistory<O> {
-    ghost use Rattle.turn_desk.specs.Turns.{Kept, first_view};
+impl<O: Object, L: Ledger<O::Request>> TableRule<
+    Slot<O, L, O::Request>,
+    View<O, O::Request>,
+    Snapshot<O>,
+> for OneHistory<O, L> {
+    ghost use Rattle.turn_desk.specs.Turns.{Holds, first_view};
 
-    ghost holds = { λ key. Kept O.good O.after O.weigh key.value };
+    ghost holds = { λ key. Holds O.good O.after O.weigh L.stands_for key.value };
 
     ghost first = { λ key. first_view key.value };
 }
 
 /// The table of a desk.
-pub type Words<O> = Table<
-    Slot<O, <O as Object>::Request>,
+pub type Words<O, L> = Table<
+    Slot<O, L, <O as Object>::Request>,
     View<O, <O as Object>::Request>,
     Snapshot<O>,
-    OneHistory<O>,
+    OneHistory<O, L>,
     Global,
 >;
 
 /// A ticket is drawn.
 pub struct Draw;
 
-impl<O, R> Play<Slot<O, R>, View<O, R>> for Draw {
+impl<O, L, R> Play<Slot<O, L, R>, View<O, R>> for Draw {
     ghost then = { drew };
 }
 
 /// A look at the ticket that is served. Where it is one's own, the book is taken.
-pub struct Look<O> {
-    object: PhantomData<O>,
+pub struct Look<O, L> {
+    object: PhantomData<(O, L)>,
 }
 
-impl<O: Object> Play<Slot<O, O::Request>, View<O, O::Request>> for Look<O> {
-    ghost then = { looked O.good O.after O.weigh };
+impl<O: Object, L: Ledger<O::Request>> Play<Slot<O, L, O::Request>, View<O, O::Request>>
+    for Look<O, L> {
+    ghost then = { looked O.good O.after O.weigh L.stands_for };
 }
 
 /// The book goes home, and the next ticket is served.
 pub struct PassOn;
 
-impl<O, R> Play<Slot<O, R>, View<O, R>> for PassOn {
+impl<O, L, R> Play<Slot<O, L, R>, View<O, R>> for PassOn {
     ghost then = { passed };
 }
 
 /// A number for a new pass is drawn.
-pub struct Number;
+pub struct Number<O> {
+    object: PhantomData<O>,
+}
 
-impl<O, R> Play<Slot<O, R>, View<O, R>> for Number {
-    ghost then = { numbered };
+impl<O: Object, L> Play<Slot<O, L, O::Request>, View<O, O::Request>> for Number<O> {
+    ghost then = { numbered O.good };
 }
 
 /// A look after a join, which tells what became of the two passes.
-pub struct Settle;
+pub struct Settle<O> {
+    object: PhantomData<O>,
+}
 
-impl<O, R> Play<Slot<O, R>, View<O, R>> for Settle {
-    ghost then = { settled };
+impl<O: Object, L> Play<Slot<O, L, O::Request>, View<O, O::Request>> for Settle<O> {
+    ghost then = { settled O.good };
+}
+
+/// A look that tells that what was seen is good.
+pub struct Recall<O> {
+    object: PhantomData<O>,
+}
+
+impl<O: Object, L> Play<Slot<O, L, O::Request>, View<O, O::Request>> for Recall<O> {
+    ghost then = { recalled O.good };
 }
 
 /// How many asks a new pass gets. Each call picks it.

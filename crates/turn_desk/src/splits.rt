@@ -4,16 +4,17 @@ ghost use Rattle.turn_desk.specs.declared.views.Stage.TheVariants.{Numbered};
 ghost use Rattle.turn_desk.specs.Seats.{IsLaid};
 ghost use Rattle.turn_desk.specs.Turns.{split_kept, split_given};
 
+use crate::ledgers::Ledger;
 use crate::objects::Object;
 use crate::plays::{Amount, Cut, Place};
 use crate::turns::SharedTable;
 
 /// Gives the number in hand to a new seat, with so many asks.
-pub(crate) fn cut<O: Object, G: Amount>(
-    shared: &SharedTable<O>,
-    seat: &mut Place<O, O::Request>,
+pub(crate) fn cut<O: Object, L: Ledger<O::Request>, G: Amount>(
+    shared: &SharedTable<O, L>,
+    seat: &mut Place<O, L, O::Request>,
     asks: u64,
-) -> Place<O, O::Request>
+) -> Place<O, L, O::Request>
     requires amount { asks ≡ G.amount }
     requires table { IsLaid shared.now.table_id × (seat.old.table_id ≡ shared.now.table_id) }
     requires number { (n : ℕ) × (seat.old.me.0.stage ≡ Numbered n) }

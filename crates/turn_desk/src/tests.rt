@@ -1,8 +1,9 @@
 ghost use Rattle.std.specs.Prelude.{◌≡◌, ◌+◌};
 ghost use Rattle.turn_desk.specs.Passes.{IsOf, all_asks};
 
-use crate::{AskFault, Desk, Object, Pass};
+use crate::{AskFault, Desk, Entry, Forgotten, Kept, Object, Pass};
 use link_port::Memory;
+use std::alloc::Global;
 use std::sync::Wait;
 use std::test::Fail;
 use std::thread::join;
@@ -30,7 +31,7 @@ impl Object for Total {
 
     ghost lasting = { λ s q r h. ((λ x. x), λ x. x) };
 
-    fn step(&mut self, request: &u64) -> Result<u64, Memory> {
+    fn step(&mut self, _alloc: Global, request: &u64) -> Result<u64, Memory> {
         self.sum = self.sum.wrapping_add(*request);
         Ok(self.sum)
     }
@@ -40,20 +41,23 @@ impl Object for Total {
     }
 }
 
+type Whole = Kept<u64>;
+
 /// Asks the number 1 so many times, and counts the replies.
 fn ask_ones<R: Wait>(
     rt: &R,
-    desk: &Desk<Total>,
-    mut pass: Pass<Total>,
+    alloc: Global,
+    desk: &Desk<Total, Whole>,
+    mut pass: Pass<Total, Whole>,
     times: u64,
-) -> (Pass<Total>, u64)
+) -> (Pass<Total, Whole>, u64)
     requires { IsOf desk.now pass }
     ensures desk { IsOf desk.now result.0 }
     ensures asks { all_asks result.0 ≡ all_asks pass }
 {
     let mut replies = 0;
     for _ in 0..times {
-        if desk.ask(rt, &mut pass, 1).is_ok() {
+        if desk.ask(rt, alloc, &mut pass, 1).is_ok() {
             replies += 1;
         }
     }
@@ -61,51 +65,54 @@ fn ask_ones<R: Wait>(
 }
 
 /// How many entries are of this pass.
-fn count(history: &[crate::Entry<u64>], number: u64) -> usize {
+fn count(history: &[Entry<u64>], number: u64) -> usize {
     history.iter().filter(|e| e.pass == number).count()
 }
 
 #[test]
 fn a_full_desk_and_a_worn_pass(rt: HostRuntime) -> Result<(), Fail> {
-    let (desk, mut pass) = Desk::start(rt.alloc(), Total { sum: 0 }, 200)?;
-    assert_eq!(rt; desk.ask(&rt, &mut pass, 1), Ok(1));
+    let alloc = rt.alloc();
+    let (desk, mut pass): (Desk<Total, Forgotten>, _) = Desk::start(alloc, Total { sum: 0 }, 200)?;
+    assert_eq!(rt; desk.ask(&rt, alloc, &mut pass, 1), Ok(1));
     assert_eq!(rt;
-        desk.ask(&rt, &mut pass, 1),
+        desk.ask(&rt, alloc, &mut pass, 1),
         Err(AskFault::Full { bytes: 192 })
     );
     let mut worn = desk.split(&mut pass, 0);
     assert_eq!(rt; (worn.number(), worn.left(), worn.asked()), (1, 0, 0));
-    assert_eq!(rt; desk.ask(&rt, &mut worn, 1), Err(AskFault::Worn));
+    assert_eq!(rt; desk.ask(&rt, alloc, &mut worn, 1), Err(AskFault::Worn));
     desk.join(&mut pass, worn);
     assert_eq!(rt; (pass.number(), pass.asked()), (0, 3));
-    let (total, history) = desk.close(pass);
-    assert_eq!(rt; (total.sum, history.len()), (1, 1));
+    let (total, _) = desk.close(pass);
+    assert_eq!(rt; total.sum, 1);
     Ok(())
 }
 
 #[test]
 fn two_threads_ask_a_hundred_times_each(rt: HostRuntime) -> Result<(), Fail> {
-    let (desk, mut pass) = Desk::start(rt.alloc(), Total { sum: 0 }, 1 << 62)?;
+    let alloc = rt.alloc();
+    let (desk, mut pass): (Desk<Total, Whole>, _) = Desk::start(alloc, Total { sum: 0 }, 1 << 62)?;
     let one = desk.split(&mut pass, 100);
     let two = desk.split(&mut pass, 100);
     let shared = &desk;
     let host = &rt;
     let ((one, first), (two, second)) = join(
         &rt,
-        || -> (Pass<Total>, u64)
+        || -> (Pass<Total, Whole>, u64)
             requires { IsOf shared.now one }
             ensures { IsOf shared.entry.now result.0 × (all_asks result.0 ≡ all_asks one) }
-        { ask_ones(host, shared, one, 100) },
-        || -> (Pass<Total>, u64)
+        { ask_ones(host, alloc, shared, one, 100) },
+        || -> (Pass<Total, Whole>, u64)
             requires { IsOf shared.now two }
             ensures { IsOf shared.entry.now result.0 × (all_asks result.0 ≡ all_asks two) }
-        { ask_ones(host, shared, two, 100) },
+        { ask_ones(host, alloc, shared, two, 100) },
     );
     assert_eq!(rt; (first, second), (100, 100));
     let (a, b) = (one.number(), two.number());
     desk.join(&mut pass, one);
     desk.join(&mut pass, two);
-    let (total, history) = desk.close(pass);
+    let (total, ledger) = desk.close(pass);
+    let history = ledger.into_list();
     assert_eq!(rt; total.sum, 200);
     assert_eq!(rt; history.len(), 200);
     assert_eq!(rt;
@@ -117,24 +124,26 @@ fn two_threads_ask_a_hundred_times_each(rt: HostRuntime) -> Result<(), Fail> {
 
 #[test]
 fn a_tree_of_four_passes(rt: HostRuntime) -> Result<(), Fail> {
-    let (desk, mut root) = Desk::start(rt.alloc(), Total { sum: 0 }, 1 << 62)?;
-    assert_eq!(rt; desk.ask(&rt, &mut root, 1), Ok(1));
+    let alloc = rt.alloc();
+    let (desk, mut root): (Desk<Total, Whole>, _) = Desk::start(alloc, Total { sum: 0 }, 1 << 62)?;
+    assert_eq!(rt; desk.ask(&rt, alloc, &mut root, 1), Ok(1));
     let mut left = desk.split(&mut root, 1000);
-    assert_eq!(rt; desk.ask(&rt, &mut left, 10), Ok(11));
+    assert_eq!(rt; desk.ask(&rt, alloc, &mut left, 10), Ok(11));
     let mut right = desk.split(&mut root, 1000);
-    assert_eq!(rt; desk.ask(&rt, &mut right, 100), Ok(111));
+    assert_eq!(rt; desk.ask(&rt, alloc, &mut right, 100), Ok(111));
     let mut leaf = desk.split(&mut left, 500);
-    assert_eq!(rt; desk.ask(&rt, &mut leaf, 1000), Ok(1111));
-    assert_eq!(rt; desk.ask(&rt, &mut root, 2), Ok(1113));
-    assert_eq!(rt; desk.ask(&rt, &mut root, 2), Ok(1115));
+    assert_eq!(rt; desk.ask(&rt, alloc, &mut leaf, 1000), Ok(1111));
+    assert_eq!(rt; desk.ask(&rt, alloc, &mut root, 2), Ok(1113));
+    assert_eq!(rt; desk.ask(&rt, alloc, &mut root, 2), Ok(1115));
     desk.join(&mut leaf, right);
-    assert_eq!(rt; desk.ask(&rt, &mut left, 20), Ok(1135));
+    assert_eq!(rt; desk.ask(&rt, alloc, &mut left, 20), Ok(1135));
     desk.join(&mut leaf, root);
-    assert_eq!(rt; desk.ask(&rt, &mut leaf, 2000), Ok(3135));
+    assert_eq!(rt; desk.ask(&rt, alloc, &mut leaf, 2000), Ok(3135));
     desk.join(&mut leaf, left);
     assert_eq!(rt; (leaf.number(), leaf.left() + leaf.asked()), (3, 1 << 62));
-    let (total, history) = desk.close(leaf);
+    let (total, ledger) = desk.close(leaf);
     assert_eq!(rt; total.sum, 3135);
+    let history = ledger.into_list();
     let entries = history.as_slice();
     assert_eq!(rt; entries.len(), 8);
     let passes: [u64; 8] = [0, 1, 2, 3, 0, 0, 1, 3];

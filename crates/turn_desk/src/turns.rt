@@ -4,43 +4,48 @@ ghost use Rattle.turn_desk.specs.declared.views.Stage.TheVariants.{Idle, Waits};
 ghost use Rattle.turn_desk.specs.Asks.{EndsWith};
 ghost use Rattle.turn_desk.specs.Faults.{NotMade};
 ghost use Rattle.turn_desk.specs.Histories.{IsReply, weight_of, AllGood, GoesOn};
-ghost use Rattle.turn_desk.specs.Seats.{IsLaid, IsSeatOf, seen_by};
-ghost use Rattle.turn_desk.specs.Turns.{GoesHome, Taken, numbers_of, with_book, back_from, asked_once};
+ghost use Rattle.turn_desk.specs.Seats.{IsLaid, IsSeatOf, history_at, seen_by};
+ghost use Rattle.turn_desk.specs.Turns.{GoesHome, Taken, numbers_of, with_book, back_from};
+ghost use Rattle.turn_desk.specs.Turns.{history_with, asked_once};
 
 use crate::books::answer;
 use crate::faults::AskFault;
+use crate::ledgers::Ledger;
 use crate::objects::{Entry, Object};
 use crate::plays::{BOOK, Draw, Look, NEXT_TICKET, OneHistory, PassOn, Place, SERVED, Slot};
 use crate::views::{Book, View};
 use atomic_table::Shared;
 use crossbeam_utils::Backoff;
+use std::alloc::Global;
 use std::snapshot::Snapshot;
 use std::sync::Wait;
 
-pub(crate) type SharedTable<O> = Shared<
-    Slot<O, <O as Object>::Request>,
+pub(crate) type SharedTable<O, L> = Shared<
+    Slot<O, L, <O as Object>::Request>,
     View<O, <O as Object>::Request>,
     Snapshot<O>,
-    OneHistory<O>,
+    OneHistory<O, L>,
 >;
 
 /// Waits until the ticket is served, and takes the book.
-fn take_turn<O: Object, R: Wait>(
+fn take_turn<O: Object, L: Ledger<O::Request>, R: Wait>(
     rt: &R,
-    shared: &SharedTable<O>,
-    seat: &mut Place<O, O::Request>,
+    shared: &SharedTable<O, L>,
+    seat: &mut Place<O, L, O::Request>,
     ticket: u64,
-) -> Book<O, O::Request>
+) -> Book<O, L, O::Request>
     requires table { IsLaid shared.now.table_id }
     requires seat { IsSeatOf shared.now.table_id shared.now.key seat.old }
     requires ticket { (seat.old.me.0.stage ≡ Waits ticket) × (seat.old.me.1 ≡ []) }
     ensures table { seat.new.table_id ≡ seat.old.table_id }
-    ensures seat { seat.new.me ≡ (with_book ticket result seat.old.me.0, (0, None) ∷ []) }
-    ensures book { Taken O.good O.after O.weigh shared.now.key.value seat.old.me.0 result }
+    ensures seat { let log = history_at seat.new in
+        seat.new.me ≡ (with_book ticket log seat.old.me.0, (0, None) ∷ []) }
+    ensures book { let s = shared.now.key.value in
+        Taken O.good O.after O.weigh L.stands_for s seat.old.me.0 result (history_at seat.new) }
 {
     let backoff = Backoff::new();
     for _ in rt.forever() {
-        if shared.load::<Look<O>>(seat, SERVED) == ticket {
+        if shared.load::<Look<O, L>>(seat, SERVED) == ticket {
             return shared.exchange(seat, BOOK, None).unwrap();
         }
         backoff.snooze();
@@ -49,27 +54,30 @@ fn take_turn<O: Object, R: Wait>(
 }
 
 /// Gives the book back, which goes on from the one that was taken, and serves the next ticket.
-fn pass_on<O: Object>(
-    shared: &SharedTable<O>,
-    seat: &mut Place<O, O::Request>,
-    book: Book<O, O::Request>,
+fn pass_on<O: Object, L: Ledger<O::Request>>(
+    shared: &SharedTable<O, L>,
+    seat: &mut Place<O, L, O::Request>,
+    book: Book<O, L, O::Request>,
 )
     requires table { IsLaid shared.now.table_id × (seat.old.table_id ≡ shared.now.table_id) }
     requires seat { seat.old.me.1 ≡ (0, None) ∷ [] }
-    requires book { GoesHome O.good O.after O.weigh shared.now.key.value seat.old.me.0 book }
+    requires book { let s = shared.now.key.value in
+        GoesHome O.good O.after O.weigh L.stands_for s seat.old.me.0 book }
     ensures table { seat.new.table_id ≡ seat.old.table_id }
-    ensures seat { seat.new.me ≡ (back_from book.entries seat.old.me.0, []) }
+    ensures seat { let log = history_with seat.old.me.0 book in
+        seat.new.me ≡ (back_from log seat.old.me.0, []) }
 {
     shared.exchange(seat, BOOK, Some(book));
     shared.fetch_add::<PassOn>(seat, SERVED, 1);
 }
 
 /// Asks in a turn of its own.
-pub(crate) fn ask_in_turn<O: Object, R: Wait>(
+pub(crate) fn ask_in_turn<O: Object, L: Ledger<O::Request>, R: Wait>(
     rt: &R,
-    shared: &SharedTable<O>,
+    alloc: Global,
+    shared: &SharedTable<O, L>,
     limit: u64,
-    seat: &mut Place<O, O::Request>,
+    seat: &mut Place<O, L, O::Request>,
     entry: Entry<O::Request>,
 ) -> Result<O::Reply, AskFault>
     requires table { IsLaid shared.now.table_id }
@@ -93,7 +101,7 @@ pub(crate) fn ask_in_turn<O: Object, R: Wait>(
 {
     let ticket = shared.fetch_add::<Draw>(seat, NEXT_TICKET, 1);
     let taken = take_turn(rt, shared, seat, ticket);
-    let (book, reply) = answer(taken, limit, entry);
+    let (book, reply) = answer(alloc, taken, limit, entry);
     pass_on(shared, seat, book);
     reply
 }

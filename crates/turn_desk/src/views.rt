@@ -1,26 +1,28 @@
 //! What the threads share, and what each of them knows of it.
 use crate::objects::Entry;
-use link_port::List;
 use std::collections::LinkedList;
+use std::snapshot::Snapshot;
 
-/// The object with its history, which one thread at a time has.
+/// The object with what is kept of its history, which one thread at a time has.
 #[derive(Drop)]
-pub struct Book<O, R> {
+pub struct Book<O, L, R> {
     pub object: O,
-    pub entries: List<Entry<R>>,
-    /// What all entries weigh.
+    pub ledger: L,
+    /// What all entries of the history weigh.
     pub weight: u64,
+    /// The entry that the last turn has added, or none. It has no bytes, and the proofs alone read it.
+    pub added: Option<Snapshot<Entry<R>>>,
 }
 
 /// What a pass is doing. No value of it is made.
-pub enum Stage<O, R> {
+pub enum Stage<R> {
     /// It was joined into another one.
     Gone,
     Idle,
     /// It has drawn this ticket.
     Waits(u64),
-    /// Its ticket is served, and it has the book, which was this one when it was taken.
-    Has(u64, Book<O, R>),
+    /// Its ticket is served, and it has the book, which had this history when it was taken.
+    Has(u64, LinkedList<Entry<R>>),
     /// It has drawn this number for a new pass.
     Numbered(u64),
     /// Another pass was joined into it: the two histories, and the numbers of the two.
@@ -31,7 +33,7 @@ pub enum Stage<O, R> {
 pub struct View<O, R> {
     /// The object that the desk was started with.
     pub start: Option<O>,
-    pub stage: Stage<O, R>,
+    pub stage: Stage<R>,
     pub number: u64,
     /// The numbers of the passes joined into it.
     pub joined: LinkedList<u64>,

@@ -7,5 +7,5 @@ split_seat-requires g c =
     let stage = c.requires.number in (
       search rules,
       search rules,
-      splits g.O.Object.good g.O.Object.after g.O.Object.weigh _ _ stage.0 _ _ stage.1 (subst (λ k. k ≤ c.args.seat.now.me.0.left) c.requires.amount c.requires.enough),
+      splits g.O.Object.good g.O.Object.after g.O.Object.weigh g.L.Ledger.stands_for _ _ stage.0 _ _ stage.1 (subst (λ k. k ≤ c.args.seat.now.me.0.left) c.requires.amount c.requires.enough),
     )

@@ -1,9 +1,10 @@
-use Rattle.std.proofs.Common.{◌≡◌, ℕ, [], ◌∷◌, ◌++◌, OnOk, OnErr, sym, ap, ◌∙◌, subst}
+use Rattle.std.proofs.Common.{rules, ◌≡◌, ℕ, [], ◌∷◌, ◌++◌, OnOk, OnErr, sym, ap, ◌∙◌, subst}
 use Rattle.turn_desk.specs.Asks.{EndsWith}
 use Rattle.turn_desk.specs.Histories.{GoesOn, requests_of}
 use Rattle.turn_desk.specs.Passes.{carried}
 use Rattle.turn_desk.specs.Turns.{numbers_of}
 use Rattle.turn_desk.proofs.Answered.{own_more, own_same}
+use Rattle.turn_desk.proofs.Steps.{recalls}
 use Rattle.turn_desk.proofs.desks.Desk.ask.Goals as goal
 
 pub returns-clause-entry : goal.returns-clause-entry
@@ -32,3 +33,6 @@ returns-clause-no_own g c =
     let number = ap (λ m. m.0.number) c.ask_in_turn-reply.ensures.seat ∙ ap (λ p. p.number) c.pass.view_is in
     subst (λ (n : ℕ). OnErr c.ask_in_turn-reply.result (requests_of n seen ≡ requests_of pass.number pass.seen)) (sym number)
     (own_same pass.number pass.joined pass.seen seen c.ask_in_turn-reply.result (returns-clause-others g c))
+
+pub load-requires : goal.load-requires
+load-requires g c = (search rules, search rules, recalls g.O.Object.good g.O.Object.after g.O.Object.weigh g.L.Ledger.stands_for _ _ _ _ c.pass.invariant.stage)

@@ -12,14 +12,14 @@ join_seat-requires g c = (
   search rules,
   search rules,
   search rules,
-  joins g.O.Object.good g.O.Object.after g.O.Object.weigh _ _ _ _ _ c.pass.invariant.stage c.other.invariant.stage,
+  joins g.O.Object.good g.O.Object.after g.O.Object.weigh g.L.Ledger.stands_for _ _ _ _ _ c.pass.invariant.stage c.other.invariant.stage,
 )
 
 pub load-requires : goal.load-requires
 load-requires g c = (
   search rules,
   search rules,
-  settles g.O.Object.good g.O.Object.after g.O.Object.weigh _ _ _ _ _ _ _ _ (ap (λ m. m.0.stage) c.join_seat.ensures.2),
+  settles g.O.Object.good g.O.Object.after g.O.Object.weigh g.L.Ledger.stands_for _ _ _ _ _ _ _ _ (ap (λ m. m.0.stage) c.join_seat.ensures.2),
 )
 
 pub returns-clause-first : goal.returns-clause-first

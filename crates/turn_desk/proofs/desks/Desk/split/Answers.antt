@@ -11,7 +11,7 @@ fetch_add-number-requires g c =
     let enough = c.requires.asks in (
       search rules,
       search rules,
-      numbers g.O.Object.good g.O.Object.after g.O.Object.weigh _ _ _ _ c.pass.invariant.stage (omega arith),
+      numbers g.O.Object.good g.O.Object.after g.O.Object.weigh g.L.Ledger.stands_for _ _ _ _ c.pass.invariant.stage (omega arith),
     )
 
 pub returns-clause-none : goal.returns-clause-none
