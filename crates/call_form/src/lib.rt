@@ -126,6 +126,3 @@ impl From<Memory> for CallFault {
         CallFault::Memory
     }
 }
-
-#[cfg(test)]
-mod tests;

@@ -4,6 +4,3 @@
 mod laws;
 
 pub use laws::fronts_go_on;
-
-#[cfg(test)]
-mod tests;

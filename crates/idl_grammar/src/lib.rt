@@ -12,6 +12,3 @@ pub use faults::IdlFault;
 pub use laws::one_cause;
 pub use reader::read;
 pub use types::read_type;
-
-#[cfg(test)]
-mod tests;

@@ -12,6 +12,3 @@ mod writing;
 pub use laws::{canon_accepted, canon_formats_once, canon_spells};
 pub use printing::text;
 pub use writing::{PrintFault, write};
-
-#[cfg(test)]
-mod tests;

@@ -1,4 +1,4 @@
-ghost use Rattle.std.specs.Prelude.{◌≡◌, ◌<◌, ℕ, OnOk, IfErr, Err, length, take};
+ghost use Rattle.std.specs.Prelude.{◌≡◌, ◌<◌, ℕ, false, OnOk, IfErr, Err, length, take};
 ghost use Rattle.std.specs.Io.KnownBytes.{Appends};
 ghost use Rattle.link_port.specs.Faults.{Rises};
 ghost use Rattle.link_port.specs.Flow.{IsAsBefore};
@@ -46,6 +46,7 @@ impl Error for PrintFault {}
 
 /// Appends the canonical text of the definition to the sink.
 pub fn write<K: Sink>(alloc: Global, tree: &Checked, sink: &mut K) -> Result<(), PrintFault>
+    requires { K.finished sink.old ≡ false }
     ensures ok { OnOk result (Appends (K.written sink.old) (K.written sink.new) (Canon tree.now)) }
     ensures sound { OnOk result (K.write_faults sink.new ≡ K.write_faults sink.old) }
 
@@ -59,6 +60,7 @@ pub fn write<K: Sink>(alloc: Global, tree: &Checked, sink: &mut K) -> Result<(),
     ensures memory { result ≡ Err fault.Memory → sink.new ≡ sink.old }
     ensures other { IsAsBefore (K.left sink.old) (K.left sink.new)
         (K.read_faults sink.old) (K.read_faults sink.new) }
+    ensures unfinished { K.finished sink.new ≡ false }
 {
     let text = match text(alloc, tree) {
         Ok(text) => text,

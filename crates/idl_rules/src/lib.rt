@@ -6,6 +6,3 @@ mod states;
 
 pub use laws::one_tree;
 pub use states::{Begun, Head, Keyword, Kind, Level, Mark, Spot, Stack, State};
-
-#[cfg(test)]
-mod tests;

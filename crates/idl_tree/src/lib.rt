@@ -22,6 +22,3 @@ pub use forms::{MOST_BRACKETS, in_form};
 pub use names::{is_field_name, is_interface_name, is_member_name};
 pub use sameness::same_type;
 pub use trees::{Body, Core, Field, Interface, Member, Named, Part, Prefix, TypeRef};
-
-#[cfg(test)]
-mod tests;

@@ -4,6 +4,3 @@
 mod laws;
 
 pub use laws::one_type;
-
-#[cfg(test)]
-mod tests;

@@ -25,8 +25,3 @@ pub use sure_streams::{SureSink, SureSource};
 pub use texts::Text;
 pub use values::Value;
 pub use whole_puts::put_all;
-
-#[cfg(test)]
-mod stream_tests;
-#[cfg(test)]
-mod tests;

@@ -6,6 +6,3 @@ mod laws;
 
 pub use framing::{Frames, Next};
 pub use laws::{nothing_lost, one_cut};
-
-#[cfg(test)]
-mod tests;

@@ -1,4 +1,5 @@
-use crate::{
+// Names, trees and what is found in them.
+use idl_tree::{
     Body, Checked, Core, Field, Interface, Member, NameFault, Part, TypeRef, copy_type, in_form,
     is_field_name, is_interface_name, is_member_name, same_type,
 };

@@ -1,4 +1,5 @@
-use crate::{Stack, one_tree};
+// The stack of open brackets.
+use idl_rules::{Stack, one_tree};
 use std::test::Fail;
 
 #[test]

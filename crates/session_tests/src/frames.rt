@@ -1,5 +1,6 @@
-use crate::{Frames, Next};
+// Bytes of any pieces, and the payloads that come out.
 use link_port::Memory;
+use message_frame::{Frames, Next};
 
 const STREAM: &[u8] = b"{\"a\":1}\0\0rest";
 

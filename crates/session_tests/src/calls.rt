@@ -1,5 +1,5 @@
 // Calls read and replies written, at the bytes.
-use crate::{CallFault, Reply, StdError, read_call, reply_text, standard};
+use call_form::{CallFault, Reply, StdError, read_call, reply_text, standard};
 use link_port::{List, Memory, Text, Value};
 use serde_json::json;
 use std::alloc::Global;

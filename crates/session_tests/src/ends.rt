@@ -1,7 +1,10 @@
 // What the objects in memory give and keep, call by call.
 ghost use Rattle.std.specs.Prelude.{◌≡◌, false, IfOk};
 
-use super::*;
+use link_port::{
+    Failed, FileFault, Files, List, MemFiles, MemSink, MemSource, Memory, Short, Sink, Source,
+    SureSink, SureSource, Text, put_all,
+};
 use std::alloc::Global;
 use std::process::Abort;
 use std::test::Fail;

@@ -1,4 +1,5 @@
-use crate::{canon_accepted, canon_formats_once, canon_spells, text, write};
+// Trees and their canonical texts.
+use idl_print::{canon_accepted, canon_formats_once, canon_spells, text, write};
 use idl_tree::{
     Body, Checked, Core, Field, Interface, Member, NameFault, Named, Part, TypeRef, in_form,
 };

@@ -1,4 +1,5 @@
-use crate::{IdlFault, one_cause, read, read_type};
+// Texts, each with the tree or the refusal that it has.
+use idl_grammar::{IdlFault, one_cause, read, read_type};
 use idl_token::TokenFault;
 use idl_tree::{Checked, NameFault};
 use std::alloc::{AllocError, Global};

@@ -1,5 +1,5 @@
 // What the owned values hold.
-use super::*;
+use link_port::{Box, List, Memory, Text, Value};
 use std::alloc::Global;
 use std::test::Fail;
 

@@ -1,6 +1,0 @@
-use crate::one_type;
-
-#[test]
-fn law_may_be_called(_rt: HostRuntime) {
-    one_type();
-}
