@@ -6,3 +6,4 @@ pub mod Opened
 pub mod OtherLengths
 pub mod Reaching
 pub mod Using
+pub mod Sharing
