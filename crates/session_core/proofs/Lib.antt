@@ -3,3 +3,4 @@ pub mod WriteLemmas
 pub mod WentLemmas
 pub mod ServeLemmas
 pub mod StreamLemmas
+pub mod TellLemmas

@@ -137,6 +137,7 @@ module _ {A : Type 0} (tells : A → Call → Outcome → A → Type 0) where
     consumed = consumed;
     most = most-fed limit now fed went.outcomes went.calls went.out went.moves ready.more;
     told = went.told;
+    fits = went.fits;
     wrote = went.wrote;
     comes = comes-ended limit now fed went.outcomes went.calls went.out why why went.moves ready.more
         (end-run now [] (paused-ready now ready) ∙ ap stopped (sym is))
@@ -155,6 +156,7 @@ module _ {A : Type 0} (tells : A → Call → Outcome → A → Type 0) where
     consumed = consumed;
     most = most-fed limit now fed went.outcomes went.calls went.out went.moves ready.more;
     told = went.told;
+    fits = went.fits;
     wrote = went.wrote;
     comes = comes-ended limit now fed went.outcomes went.calls went.out stop.ReadFault (ended_in now.phase now) went.moves ready.more
         (end-run now [] (paused-ready now ready)) (refl, (ended_in now.phase now, ended-ready now ready, refl));
@@ -183,6 +185,7 @@ module _ {A : Type 0} (tells : A → Call → Outcome → A → Type 0) where
         consumed = Consumes-trans left mid left' fed piece consumed more;
         most = counted;
         told = whole.told;
+        fits = whole.fits;
         wrote = whole.wrote;
         comes = subst (λ (ran : Ran). ComesTo ran whole.calls whole.out why) (sym (run-fresh limit (fed ++ piece) whole.outcomes))
             (subst (λ (bytes : List ℕ). ComesTo (run_from (fresh limit) bytes whole.outcomes) whole.calls whole.out why) (append-nil (fed ++ piece))
@@ -200,6 +203,7 @@ module _ {A : Type 0} (tells : A → Call → Outcome → A → Type 0) where
     consumed = Consumes-nil left;
     most = omega arith;
     told = refl;
+    fits = tt;
     wrote = Appends-nil k;
     comes = record { unwritten = []; later = run limit [] []; is = refl; leaves = tt };
     all = tt;

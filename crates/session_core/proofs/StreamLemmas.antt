@@ -1,8 +1,8 @@
 -- Runs over more bytes.
-use Rattle.std.proofs.Common.{◌≡◌, ℕ, ◌+◌, ◌<◌, ◌≤◌, List, [], ◌∷◌, ◌++◌, length, Bool, true, false, cond, ◌==◌, nat_lt, Option, Some, None, Result, Ok, Err, refl, sym, ◌∙◌, ap, subst, append_assoc, length-append, arith, rules}
+use Rattle.std.proofs.Common.{◌≡◌, ℕ, ◌+◌, ◌<◌, List, [], ◌∷◌, ◌++◌, length, Bool, true, false, cond, ◌==◌, nat_lt, Option, Some, None, Result, Ok, Err, refl, sym, ◌∙◌, ap, subst, append_assoc, arith, rules}
 use Rattle.std.proofs.lemmas.List.{append-nil}
 use Rattle.std.proofs.lemmas.Grind.{flat_map-append}
-use Rattle.std.specs.List.{AllByRecursion, flat_map}
+use Rattle.std.specs.List.{flat_map}
 use Rattle.message_frame.specs.Pieces.{NoNul, ended, pieces, Pieces}
 use Rattle.message_frame.proofs.PieceLemmas.{pieces-flat_map, ArePieces-pieces}
 use Rattle.call_form.specs.declared.Call.{Call}
@@ -14,7 +14,7 @@ use Rattle.call_form.specs.CallOf.{call_of}
 use Rattle.session_core.specs.declared.stops.Stop.{Stop}
 use Rattle.session_core.specs.declared.stops.Stop.TheVariants as stop
 use Rattle.session_core.specs.Limits.{most_bytes}
-use Rattle.session_core.specs.Run.{Ran, Later, stopped, after, answered, by_call, goes_on, texts, run, run_messages, run_on, raw_run, at_rest, at_end, end_of, echoed}
+use Rattle.session_core.specs.Run.{Ran, Later, stopped, after, by_call, goes_on, texts, run, run_messages, run_on, raw_run, at_end, end_of}
 use Rattle.session_core.specs.Streams.{IsAtMessage, LooksNoFurther, OnlyAdds}
 use Rattle.session_core.proofs.RunLemmas.{run_on-too_long}
 

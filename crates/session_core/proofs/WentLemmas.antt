@@ -13,6 +13,7 @@ use Rattle.session_core.specs.declared.stops.Stop.TheVariants as stop
 use Rattle.session_core.specs.Limits.{most_bytes}
 use Rattle.call_form.specs.declared.Raw.{Raw}
 use Rattle.call_form.specs.declared.Raw.TheVariants.{Echo, Discard}
+use Rattle.session_core.specs.Outcomes.{AllFit}
 use Rattle.session_core.specs.Run.{Ran, stopped, after, texts, echoed, at_end, goes_on}
 use Rattle.session_core.specs.Seen.{Seen, Moves, run_from, later_of, run_in}
 use Rattle.session_core.specs.Steps.{RunsOn, StopsIn, StopsAt, IsRaw, echoed_in, replied_phase}
@@ -50,6 +51,14 @@ ComesTo-after ran later calls others out wrote why e comes = record {
   leaves = comes.leaves;
 }
 
+pub AllFit-append : (calls others : List Call) (outcomes later : List Outcome) → AllFit calls outcomes → AllFit others later →
+    AllFit (calls ++ others) (outcomes ++ later)
+AllFit-append [] others [] later first second = second
+AllFit-append [] others (outcome ∷ outcomes) later first second = absurd first
+AllFit-append (call ∷ calls) others [] later first second = absurd first
+AllFit-append (call ∷ calls) others (outcome ∷ outcomes) later first second =
+    (first.0, AllFit-append calls others outcomes later first.1 second)
+
 module _ {A : Type 0} (tells : A → Call → Outcome → A → Type 0) where
   pub Told-append : (a b c : A) (calls others : List Call) (outcomes later : List Outcome) →
       Told tells a calls outcomes b → Told tells b others later c → Told tells a (calls ++ others) (outcomes ++ later) c
@@ -60,7 +69,7 @@ module _ {A : Type 0} (tells : A → Call → Outcome → A → Type 0) where
       (first.0, first.1, Told-append first.0 b c calls others outcomes later first.2 second)
 
   pub Went-same : (seen : Seen) (a : A) (written : Option (List ℕ)) → Went tells seen seen [] a a written written
-  Went-same seen a written = record { calls = []; outcomes = []; out = []; told = refl; wrote = Appends-nil written; moves = Moves-same seen }
+  Went-same seen a written = record { calls = []; outcomes = []; out = []; told = refl; fits = tt; wrote = Appends-nil written; moves = Moves-same seen }
 
   pub Went-trans : (one two three : Seen) (fed more : List ℕ) (a b c : A) (k l m : Option (List ℕ)) →
       Went tells one two fed a b k l → Went tells two three more b c l m → Went tells one three (fed ++ more) a c k m
@@ -69,13 +78,14 @@ module _ {A : Type 0} (tells : A → Call → Outcome → A → Type 0) where
     outcomes = first.outcomes ++ second.outcomes;
     out = first.out ++ second.out;
     told = Told-append a b c first.calls second.calls first.outcomes second.outcomes first.told second.told;
+    fits = AllFit-append first.calls second.calls first.outcomes second.outcomes first.fits second.fits;
     wrote = Appends-trans k l m first.out second.out first.wrote second.wrote;
     moves = Moves-trans one two three fed more first.outcomes second.outcomes first.calls second.calls first.out second.out first.moves second.moves;
   }
 
   -- bytes that went in, and nothing else yet
   pub Went-fed : (old new : Seen) (fed : List ℕ) (a : A) (written : Option (List ℕ)) → Moves old new fed [] [] [] → Went tells old new fed a a written written
-  Went-fed old new fed a written moves = record { calls = []; outcomes = []; out = []; told = refl; wrote = Appends-nil written; moves = moves }
+  Went-fed old new fed a written moves = record { calls = []; outcomes = []; out = []; told = refl; fits = tt; wrote = Appends-nil written; moves = moves }
 
   pub Went-Halts : (one two : Seen) (fed more : List ℕ) (a b c : A) (k l m : Option (List ℕ)) (why : Stop) →
       Went tells one two fed a b k l → Halts tells two more b c l m why → Halts tells one (fed ++ more) a c k m why
@@ -84,6 +94,7 @@ module _ {A : Type 0} (tells : A → Call → Outcome → A → Type 0) where
     outcomes = first.outcomes ++ second.outcomes;
     out = first.out ++ second.out;
     told = Told-append a b c first.calls second.calls first.outcomes second.outcomes first.told second.told;
+    fits = AllFit-append first.calls second.calls first.outcomes second.outcomes first.fits second.fits;
     wrote = Appends-trans k l m first.out second.out first.wrote second.wrote;
     on = λ bytes bound.
         let room : two.taken + length (more ++ bytes) ≤ most_bytes =
@@ -101,6 +112,7 @@ module _ {A : Type 0} (tells : A → Call → Outcome → A → Type 0) where
     outcomes = halts.outcomes;
     out = halts.out;
     told = halts.told;
+    fits = halts.fits;
     wrote = halts.wrote;
     on = λ bytes bound. rw (append_assoc fed more bytes)
         (halts.on (more ++ bytes) (rw (sym (append_assoc fed more bytes)) bound));
@@ -208,6 +220,7 @@ module _ {A : Type 0} (tells : A → Call → Outcome → A → Type 0) where
         outcomes = answered.outcome ∷ [];
         out = texts call.oneway answered.outcome;
         told = (c, answered.told, refl);
+        fits = (answered.fits, tt);
         wrote = answered.wrote;
         moves = Moves-trans two mid three [] [] [] (answered.outcome ∷ []) (call ∷ []) [] [] (texts call.oneway answered.outcome) read answered.moves;
       })
@@ -221,6 +234,7 @@ module _ {A : Type 0} (tells : A → Call → Outcome → A → Type 0) where
         outcomes = [];
         out = [];
         told = refl;
+        fits = tt;
         wrote = Appends-nil l;
         on = λ bytes bound. comes-stop two new why running t runs bytes bound;
       })
@@ -234,6 +248,7 @@ module _ {A : Type 0} (tells : A → Call → Outcome → A → Type 0) where
         outcomes = [];
         out = passed.out;
         told = refl;
+        fits = tt;
         wrote = passed.wrote;
         moves = passed.moves;
       })
@@ -246,6 +261,7 @@ module _ {A : Type 0} (tells : A → Call → Outcome → A → Type 0) where
         outcomes = [];
         out = until.out;
         told = refl;
+        fits = tt;
         wrote = until.wrote;
         on = until.on;
       })
@@ -262,6 +278,7 @@ module _ {A : Type 0} (tells : A → Call → Outcome → A → Type 0) where
     outcomes = broke.outcome ∷ [];
     out = broke.part.front;
     told = (c, broke.told, refl);
+    fits = (broke.fits, tt);
     wrote = broke.part.wrote;
     on = λ bytes bound.
         let room : mid.taken + length bytes ≤ most_bytes = omega (arith, read.counted) in
@@ -282,6 +299,7 @@ module _ {A : Type 0} (tells : A → Call → Outcome → A → Type 0) where
     outcomes = [];
     out = [];
     told = none.0;
+    fits = tt;
     wrote = subst (λ (now : Option (List ℕ)). Appends l now []) (sym none.1) (Appends-nil l);
     on = λ bytes bound. record { unwritten = []; later = run_from two bytes []; is = refl; leaves = tt };
   }

@@ -9,3 +9,4 @@ pub mod Went
 pub mod Kept
 pub mod Messages
 pub mod Outcomes
+pub mod Tells

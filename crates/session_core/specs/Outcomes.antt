@@ -1,5 +1,5 @@
 -- The replies to one call.
-use Rattle.std.specs.Prelude.{◌≡◌, true, false, List, [], ◌∷◌, length, Option, Some, None, IsSome}
+use Rattle.std.specs.Prelude.{◌≡◌, true, false, List, [], ◌∷◌, length, ⊤, Option, Some, None, IsSome}
 use Rattle.std.specs.List.{AllByRecursion}
 use Rattle.call_form.specs.declared.Call.{Call}
 use Rattle.call_form.specs.declared.Reply.{Reply}
@@ -21,11 +21,24 @@ Continues [] = ⊥
 Continues (reply ∷ []) = reply.continues ≡ false
 Continues (reply ∷ replies) = (reply.continues ≡ true) × Continues replies
 
+-- only the last reply may be an error
+abbrev pub OnlyLastFails : List Reply → Type 0
+OnlyLastFails [] = ⊤
+OnlyLastFails (reply ∷ []) = ⊤
+OnlyLastFails (reply ∷ replies) = (reply.error ≡ None) × OnlyLastFails replies
+
 -- an outcome fits its call (varlink.org, "Method Call"): one reply at least, several only where `more` is set, all but
--- the last with `continues`, and an upgrade only where `upgrade` is set and neither `oneway` nor `more`. Each reply
--- can be written
+-- the last with `continues` and without an error, and an upgrade only where `upgrade` is set and neither `oneway` nor
+-- `more`. Each reply can be written
 pub record Fits (call : Call) (outcome : Outcome) : Type 0 where
   pub continues : Continues outcome.replies
+  pub errors : OnlyLastFails outcome.replies
   pub several : call.more ≡ false → length outcome.replies ≡ 1
   pub upgrade : IsSome outcome.raw → (call.upgrade ≡ true) × (call.oneway ≡ false) × (call.more ≡ false)
   pub writable : AllByRecursion IsWritable outcome.replies
+
+-- each of these outcomes fits the call at its place
+abbrev pub AllFit : List Call → List Outcome → Type 0
+AllFit [] [] = ⊤
+AllFit (call ∷ calls) (outcome ∷ outcomes) = Fits call outcome × AllFit calls outcomes
+AllFit _ _ = ⊥

@@ -7,6 +7,7 @@ use Rattle.call_form.specs.declared.Outcome.{Outcome}
 use Rattle.session_core.specs.declared.stops.Stop.{Stop}
 use Rattle.session_core.specs.declared.stops.Stop.TheVariants as stop
 use Rattle.session_core.specs.Limits.{most_bytes}
+use Rattle.session_core.specs.Outcomes.{AllFit}
 use Rattle.session_core.specs.Run.{Ran, stopped, after, run}
 
 -- from the state a, these calls had these outcomes, one after another, and left the state b
@@ -49,7 +50,7 @@ TakesAll stop.Upgraded left taken = IfSome left (λ bytes. taken ≡ bytes)
 TakesAll _ left taken = ⊤
 
 -- one session was served: these bytes were taken from what was left; the answerer went from a to b by its own
--- definition over the calls answered; what was written is what the session machine writes for these bytes with these
+-- definition over the calls answered, each by an outcome that fits it; what was written is what the session machine writes for these bytes with these
 -- outcomes; and the stop is the machine's
 pub record Served {A : Type 0} (tells : A → Call → Outcome → A → Type 0) (limit : ℕ) (a b : A)
     (left left' written written' : Option (List ℕ)) (why : Stop) : Type 0 where
@@ -60,6 +61,7 @@ pub record Served {A : Type 0} (tells : A → Call → Outcome → A → Type 0)
   pub consumed : Consumes left left' taken
   pub most : length taken ≤ most_bytes
   pub told : Told tells a calls outcomes b
+  pub fits : AllFit calls outcomes
   pub wrote : Appends written written' out
   pub comes : ComesTo (run limit taken outcomes) calls out why
   pub all : TakesAll why left taken

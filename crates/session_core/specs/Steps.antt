@@ -12,6 +12,7 @@ use Rattle.session_core.specs.declared.sessions.Turn.TheVariants as turn
 use Rattle.session_core.specs.declared.stops.Stop.{Stop}
 use Rattle.session_core.specs.declared.stops.Stop.TheVariants as stop
 use Rattle.session_core.specs.Limits.{most_bytes}
+use Rattle.session_core.specs.Outcomes.{without_first}
 use Rattle.session_core.specs.Run.{at_end, end_of, echoed, texts}
 use Rattle.session_core.specs.Seen.{Seen, Moves}
 
@@ -110,6 +111,11 @@ texts_in _ outcome = []
 abbrev pub asked_in : Phase → List Reply → List Reply
 asked_in (phase.Waiting oneway) replies = if oneway then [] else replies
 asked_in _ replies = []
+
+-- what is left once a call was answered: no reply, and all that there were for a `oneway` call
+abbrev pub left_after : Phase → Outcome → Outcome
+left_after (phase.Waiting oneway) outcome = if oneway then outcome else without_first outcome []
+left_after _ outcome = outcome
 
 -- after the replies come calls, or raw bytes where an upgrade was accepted
 abbrev pub replied_phase : Option Raw → Phase

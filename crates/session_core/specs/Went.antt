@@ -8,6 +8,7 @@ use Rattle.session_core.specs.declared.phases.Phase.TheVariants as phase
 use Rattle.session_core.specs.declared.stops.Stop.{Stop}
 use Rattle.session_core.specs.declared.stops.Stop.TheVariants as stop
 use Rattle.session_core.specs.Limits.{most_bytes}
+use Rattle.session_core.specs.Outcomes.{Fits, AllFit}
 use Rattle.session_core.specs.Run.{texts}
 use Rattle.session_core.specs.Seen.{Seen, Moves, run_from}
 use Rattle.session_core.specs.Steps.{IsOpen, replied_phase}
@@ -49,6 +50,7 @@ module _ {A : Type 0} (tells : A → Call → Outcome → A → Type 0) where
     pub outcomes : List Outcome
     pub out : List ℕ
     pub told : Told tells a calls outcomes b
+    pub fits : AllFit calls outcomes
     pub wrote : Appends written written' out
     pub moves : Moves old new fed outcomes calls out
 
@@ -58,6 +60,7 @@ module _ {A : Type 0} (tells : A → Call → Outcome → A → Type 0) where
     pub outcomes : List Outcome
     pub out : List ℕ
     pub told : Told tells a calls outcomes b
+    pub fits : AllFit calls outcomes
     pub wrote : Appends written written' out
     pub on : (bytes : List ℕ) → old.taken + length (fed ++ bytes) ≤ most_bytes →
         ComesTo (run_from old (fed ++ bytes) outcomes) calls out why
@@ -66,6 +69,7 @@ module _ {A : Type 0} (tells : A → Call → Outcome → A → Type 0) where
   pub record Answered (old new : Seen) (call : Call) (a b : A) (written written' : Option (List ℕ)) : Type 0 where
     pub outcome : Outcome
     pub told : tells a call outcome b
+    pub fits : Fits call outcome
     pub wrote : Appends written written' (texts call.oneway outcome)
     pub moves : Moves old new [] (outcome ∷ []) [] (texts call.oneway outcome)
     pub state : new ≡ record old { phase = replied_phase outcome.raw }
@@ -74,6 +78,7 @@ module _ {A : Type 0} (tells : A → Call → Outcome → A → Type 0) where
   pub record BrokeOff (call : Call) (a b : A) (written written' : Option (List ℕ)) : Type 0 where
     pub outcome : Outcome
     pub told : tells a call outcome b
+    pub fits : Fits call outcome
     pub part : AppendsFront written written' (texts call.oneway outcome)
 
   abbrev pub Unanswered : A → A → Option (List ℕ) → Option (List ℕ) → Stop → Type 0

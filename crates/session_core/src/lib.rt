@@ -10,7 +10,7 @@ mod sessions;
 mod stops;
 mod writing;
 
-pub use laws::{looks_no_further, only_adds};
+pub use laws::{looks_no_further, only_adds, tells_all};
 pub use replies::{Answerer, Given, Replies};
 pub use serving::serve_alone;
 pub use sessions::{MOST_BYTES, Session, Turn};

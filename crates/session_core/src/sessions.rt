@@ -1,10 +1,10 @@
 // One session: bytes go in, calls come out, and replies go to the sink.
-ghost use Rattle.std.specs.Prelude.{◌≡◌, ℕ, List, ◌+◌, ◌^◌, ◌<◌, ◌≤◌, [], ◌∷◌, IfOk, IfErr, OnOk, OnErr, length, take, min};
+ghost use Rattle.std.specs.Prelude.{◌≡◌, ℕ, false, List, ◌+◌, ◌^◌, ◌<◌, ◌≤◌, [], ◌∷◌, IfOk, IfErr, OnOk, OnErr, length, take, min};
 ghost use Rattle.call_form.specs.declared.Outcome.{Outcome};
 ghost use Rattle.session_core.specs.Run.{stopped};
 ghost use Rattle.session_core.specs.Seen.{Seen, Moves, fresh, run_from};
 ghost use Rattle.session_core.specs.Steps.{room_in, holding, IsIdle, IsPaused, Turns, RunsOn, ended_in};
-ghost use Rattle.session_core.specs.Steps.{IsWaiting, IsRaw, texts_in, asked_in, replied_phase, echoed_in};
+ghost use Rattle.session_core.specs.Steps.{IsWaiting, IsRaw, texts_in, asked_in, left_after, replied_phase, echoed_in};
 ghost use Rattle.link_port.specs.Flow.{AppendsFront};
 ghost use Rattle.session_core.specs.Writes.{BreaksOff};
 ghost use Rattle.call_form.specs.ReplyText.{IsWritable};
@@ -152,11 +152,16 @@ impl Session {
         ensures wrote { OnOk result (Appends (K.written sink.old) (K.written sink.new)
             (texts_in self.old.phase (P.left replies.old))) }
         ensures sound { OnOk result (K.write_faults sink.new ≡ K.write_faults sink.old) }
+        ensures left { OnOk result
+            (P.left replies.new ≡ left_after self.old.phase (P.left replies.old)) }
+        ensures raw { (P.left replies.new).raw ≡ (P.left replies.old).raw }
 
+        ensures asked { OnErr result (self.old.phase ≡ Phase.Waiting false) }
         ensures stopped { IfErr result (λ stop.
             self.new ≡ record self.old { phase = Phase.Stopped stop }) }
         ensures part { IfErr result (λ stop.
             BreaksOff stop (asked_in self.old.phase (P.left replies.old).replies)
+            (P.left replies.new).replies
             (K.written sink.old) (K.written sink.new)
             (K.write_faults sink.old) (K.write_faults sink.new)) }
         ensures other { IsAsBefore (K.left sink.old) (K.left sink.new)

@@ -25,8 +25,8 @@ pub fn write_replies<K: Sink, P: Replies>(
     ensures wrote { OnOk result (Appends (K.written sink.old) (K.written sink.new)
         (flat_map reply_bytes (P.left replies.old).replies)) }
     ensures sound { OnOk result (K.write_faults sink.new ≡ K.write_faults sink.old) }
-    ensures part { IfErr result (λ stop. BreaksOff stop (P.left replies.old).replies
-        (K.written sink.old) (K.written sink.new) (K.write_faults sink.old) (K.write_faults sink.new)) }
+    ensures part { IfErr result (λ stop. BreaksOff stop
+        (P.left replies.old).replies (P.left replies.new).replies (K.written sink.old) (K.written sink.new) (K.write_faults sink.old) (K.write_faults sink.new)) }
     ensures other { IsAsBefore (K.left sink.old) (K.left sink.new)
         (K.read_faults sink.old) (K.read_faults sink.new) }
 {
@@ -47,8 +47,9 @@ fn write_reply<K: Sink>(alloc: Global, reply: Reply, sink: &mut K) -> Result<(),
     requires { IsWritable reply }
     ensures wrote { OnOk result (Appends (K.written sink.old) (K.written sink.new) (reply_bytes reply)) }
     ensures sound { OnOk result (K.write_faults sink.new ≡ K.write_faults sink.old) }
-    ensures part { IfErr result (λ stop. BreaksOff stop (reply ∷ [])
-        (K.written sink.old) (K.written sink.new) (K.write_faults sink.old) (K.write_faults sink.new)) }
+    ensures part { IfErr result (λ stop. BreaksOff stop (reply ∷ []) []
+        (K.written sink.old) (K.written sink.new)
+        (K.write_faults sink.old) (K.write_faults sink.new)) }
     ensures other { IsAsBefore (K.left sink.old) (K.left sink.new)
         (K.read_faults sink.old) (K.read_faults sink.new) }
 {

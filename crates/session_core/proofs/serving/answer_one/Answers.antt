@@ -9,5 +9,6 @@ pub returns-in-Err-give-clause-broke : goal.returns-in-Err-give-clause-broke
 returns-in-Err-give-clause-broke g c = inl (record {
   outcome = _;
   told = c.in-Ok.ensures.told;
-  part = AppendsFront-asked _ c.args.call.oneway (g.A.Out.Replies.left c.in-Ok.replies) c.in-Err-give.stop _ _ _ _ c.requires.waits c.in-Err-give.ensures.part;
+  fits = c.in-Ok.ensures.fits;
+  part = AppendsFront-asked _ c.args.call.oneway (g.A.Out.Replies.left c.in-Ok.replies) _ c.in-Err-give.stop _ _ _ _ c.requires.waits c.in-Err-give.ensures.part;
 })

@@ -4,7 +4,7 @@ use Rattle.call_form.specs.declared.Outcome.{Outcome}
 use Rattle.call_form.specs.declared.Reply.{Reply}
 use Rattle.call_form.specs.ReplyText.{IsWritable}
 use Rattle.session_core.specs.Writes.{BreaksOff}
-use Rattle.session_core.proofs.WriteLemmas.{BreaksOff-after, Appends-reply}
+use Rattle.session_core.proofs.WriteLemmas.{BreaksWithin-none, BreaksOff-after, Appends-reply}
 use Rattle.session_core.proofs.writing.write_replies.Goals as goal
 
 pub replies-preserved : goal.replies-preserved
@@ -32,6 +32,14 @@ returns-in-Err-write_reply-clause-part g c =
     let earlier = c.replies.invariant in
     BreaksOff-after c.in-Err-write_reply.stop earlier.done c.in-Ok-Some.reply (g.P.Replies.left c.next.new.self).replies _ _ _ _ _ _
     (earlier.split ∙ ap (λ (replies : List Reply). earlier.done ++ replies) first) earlier.wrote
-    (subst (λ (faults : ℕ). BreaksOff c.in-Err-write_reply.stop (c.in-Ok-Some.reply ∷ []) (g.K.Ends.written c.replies.sink)
+    (subst (λ (faults : ℕ). BreaksOff c.in-Err-write_reply.stop (c.in-Ok-Some.reply ∷ []) [] (g.K.Ends.written c.replies.sink)
     (g.K.Ends.written c.write_reply.new.sink) faults (g.K.Ends.write_faults c.write_reply.new.sink))
     earlier.faults c.in-Err-write_reply.ensures.part)
+
+pub returns-in-Err-clause-part : goal.returns-in-Err-clause-part
+returns-in-Err-clause-part g c =
+    let earlier = c.replies.invariant in (
+      BreaksWithin-none _ _ earlier.done _ _
+          (earlier.split ∙ ap (λ (outcome : Outcome). earlier.done ++ outcome.replies) (sym c.in-Err.ensures.memory)) earlier.wrote,
+      earlier.faults,
+    )
