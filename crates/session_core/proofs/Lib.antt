@@ -4,3 +4,4 @@ pub mod WentLemmas
 pub mod ServeLemmas
 pub mod StreamLemmas
 pub mod TellLemmas
+pub mod SentLemmas

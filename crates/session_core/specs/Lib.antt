@@ -10,3 +10,5 @@ pub mod Kept
 pub mod Messages
 pub mod Outcomes
 pub mod Tells
+pub mod Sent
+pub mod Heard

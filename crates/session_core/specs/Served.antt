@@ -35,12 +35,16 @@ Leaves (stop.Full bytes) unwritten later = ⊥
 Leaves stop.Worn unwritten later = ⊥
 Leaves why unwritten later = (unwritten ≡ []) × (later ≡ stopped why)
 
--- the calls of this run were answered, these bytes of it were written, and it came to this stop
-pub record ComesTo (ran : Ran) (calls : List Call) (out : List ℕ) (why : Stop) : Type 0 where
+-- a run came so far: these calls of it were answered, these bytes of it were written, and what is left of it is so
+pub record Reaches (ran : Ran) (calls : List Call) (out : List ℕ) (Left : List ℕ → Ran → Type 0) : Type 0 where
   pub unwritten : List ℕ
   pub later : Ran
   pub is : ran ≡ after calls (out ++ unwritten) later
-  pub leaves : Leaves why unwritten later
+  pub leaves : Left unwritten later
+
+-- the calls of this run were answered, these bytes of it were written, and it came to this stop
+abbrev pub ComesTo : Ran → List Call → List ℕ → Stop → Type 0
+ComesTo ran calls out why = Reaches ran calls out (Leaves why)
 
 -- where the stop says that the input ended, all that was left was taken
 abbrev pub TakesAll : Stop → Option (List ℕ) → List ℕ → Type 0

@@ -1,8 +1,11 @@
 //! The session machine: the calls of one connection, and the replies to them.
 #![tactic(auto)]
 
+mod hearers;
 mod laws;
+mod links;
 mod messages;
+mod outboxes;
 mod phases;
 mod replies;
 mod serving;
@@ -10,9 +13,10 @@ mod sessions;
 mod stops;
 mod writing;
 
+pub use hearers::Hearer;
 pub use laws::{looks_no_further, only_adds, tells_all};
+pub use links::{serve_alone, serve_link};
 pub use replies::{Answerer, Given, Replies};
-pub use serving::serve_alone;
 pub use sessions::{MOST_BYTES, Session, Turn};
 pub use stops::Stop;
 

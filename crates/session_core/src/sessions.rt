@@ -6,6 +6,7 @@ ghost use Rattle.session_core.specs.Seen.{Seen, Moves, fresh, run_from};
 ghost use Rattle.session_core.specs.Steps.{room_in, holding, IsIdle, IsPaused, Turns, RunsOn, ended_in};
 ghost use Rattle.session_core.specs.Steps.{IsWaiting, IsRaw, texts_in, asked_in, left_after, replied_phase, echoed_in};
 ghost use Rattle.link_port.specs.Flow.{AppendsFront};
+ghost use Rattle.session_core.specs.Sent.{sent, Sends};
 ghost use Rattle.session_core.specs.Writes.{BreaksOff};
 ghost use Rattle.call_form.specs.ReplyText.{IsWritable};
 ghost use Rattle.link_port.specs.Faults.{Rises};
@@ -14,6 +15,7 @@ ghost use Rattle.std.specs.Io.KnownBytes.{Appends};
 ghost use Rattle.std.specs.List.{AllByRecursion};
 
 use crate::messages::{Message, end_of, read_message, stop_of};
+use crate::outboxes::Outbox;
 use crate::phases::Phase;
 use crate::replies::Replies;
 use crate::stops::Stop;
@@ -107,6 +109,13 @@ impl Session {
         self.taken
     }
 
+    /// The index of the next message.
+    pub fn index(&self) -> u64
+        ensures { result ≡ self.now.index }
+    {
+        self.index
+    }
+
     /// Gives the next call, or tells why there is none.
     pub fn next(&mut self, alloc: Global) -> Turn
         requires { IsIdle self.old.phase }
@@ -144,6 +153,7 @@ impl Session {
     ) -> Result<(), Stop>
         requires waits { IsWaiting self.old.phase }
         requires writable { AllByRecursion IsWritable (P.left replies.old).replies }
+        requires unfinished { K.finished sink.old ≡ false }
 
         ensures state { OnOk result
             (self.new ≡ record self.old { phase = replied_phase (P.left replies.old).raw }) }
@@ -160,15 +170,55 @@ impl Session {
         ensures stopped { IfErr result (λ stop.
             self.new ≡ record self.old { phase = Phase.Stopped stop }) }
         ensures part { IfErr result (λ stop.
-            BreaksOff stop (asked_in self.old.phase (P.left replies.old).replies)
-            (P.left replies.new).replies
-            (K.written sink.old) (K.written sink.new)
+            BreaksOff (Appends (K.written sink.old) (K.written sink.new)) stop
+            (asked_in self.old.phase (P.left replies.old).replies) (P.left replies.new).replies
             (K.write_faults sink.old) (K.write_faults sink.new)) }
         ensures other { IsAsBefore (K.left sink.old) (K.left sink.new)
             (K.read_faults sink.old) (K.read_faults sink.new) }
+        ensures unfinished { K.finished sink.new ≡ false }
+    {
+        self.give_behind(alloc, replies, &mut Outbox::none(alloc), sink)
+    }
+
+    /// Sends the replies of that call behind what waits in the outbox.
+    pub(crate) fn give_behind<K: Sink, P: Replies>(
+        &mut self,
+        alloc: Global,
+        replies: &mut P,
+        outbox: &mut Outbox,
+        sink: &mut K,
+    ) -> Result<(), Stop>
+        requires waits { IsWaiting self.old.phase }
+        requires writable { AllByRecursion IsWritable (P.left replies.old).replies }
+        requires unfinished { K.finished sink.old ≡ false }
+
+        ensures state { OnOk result
+            (self.new ≡ record self.old { phase = replied_phase (P.left replies.old).raw }) }
+        ensures run { OnOk result (Moves self.old self.new [] (P.left replies.old ∷ []) []
+            (texts_in self.old.phase (P.left replies.old))) }
+        ensures wrote { OnOk result (Sends (sent (K.written sink.old) outbox.old)
+            (sent (K.written sink.new) outbox.new)
+            (texts_in self.old.phase (P.left replies.old))) }
+        ensures sound { OnOk result (K.write_faults sink.new ≡ K.write_faults sink.old) }
+        ensures left { OnOk result
+            (P.left replies.new ≡ left_after self.old.phase (P.left replies.old)) }
+        ensures raw { (P.left replies.new).raw ≡ (P.left replies.old).raw }
+
+        ensures asked { OnErr result (self.old.phase ≡ Phase.Waiting false) }
+        ensures stopped { IfErr result (λ stop.
+            self.new ≡ record self.old { phase = Phase.Stopped stop }) }
+        ensures part { IfErr result (λ stop.
+            BreaksOff (Sends (sent (K.written sink.old) outbox.old)
+            (sent (K.written sink.new) outbox.new)) stop
+            (asked_in self.old.phase (P.left replies.old).replies) (P.left replies.new).replies
+            (K.write_faults sink.old) (K.write_faults sink.new)) }
+        ensures other { IsAsBefore (K.left sink.old) (K.left sink.new)
+            (K.read_faults sink.old) (K.read_faults sink.new) }
+        ensures room { outbox.new.room ≡ outbox.old.room }
+        ensures unfinished { K.finished sink.new ≡ false }
     {
         if let Phase::Waiting { oneway: false } = self.phase {
-            if let Err(stop) = write_replies(alloc, replies, sink) {
+            if let Err(stop) = write_replies(alloc, replies, outbox, sink) {
                 self.phase = Phase::Stopped(stop);
                 return Err(stop);
             }
@@ -181,7 +231,8 @@ impl Session {
     ///
     /// It refuses with `WriteFault` alone, and the session has then stopped.
     pub fn pump<K: Sink>(&mut self, sink: &mut K) -> Result<(), Stop>
-        requires { IsRaw self.old.phase }
+        requires raw { IsRaw self.old.phase }
+        requires unfinished { K.finished sink.old ≡ false }
 
         ensures state { OnOk result (self.new ≡ record self.old { held = [] }) }
         ensures run { OnOk result
@@ -198,6 +249,7 @@ impl Session {
         ensures fault { OnErr result (Rises (K.write_faults sink.old) (K.write_faults sink.new)) }
         ensures other { IsAsBefore (K.left sink.old) (K.left sink.new)
             (K.read_faults sink.old) (K.read_faults sink.new) }
+        ensures unfinished { K.finished sink.new ≡ false }
     {
         if let Phase::Raw(Raw::Echo) = self.phase {
             if let Err(_) = put_all(sink, self.frames.rest()) {

@@ -1,6 +1,12 @@
+ghost use Rattle.std.specs.Prelude.{◌≡◌, false, IfOk};
+ghost use Rattle.std.specs.List.{AllByRecursion};
+ghost use Rattle.call_form.specs.CallOf.{IsObject};
+ghost use Rattle.call_form.specs.ReplyText.{IsWritable};
+ghost use Rattle.session_core.specs.Steps.{IsIdle};
+
 use super::*;
 use call_form::{Call, Outcome, Raw, Reply};
-use link_port::{List, MemSink, MemSource, Memory, Value};
+use link_port::{Ends, Failed, List, MemSink, MemSource, Memory, Sink, Source, Value};
 use serde_json::json;
 use std::alloc::Global;
 use std::test::Fail;
@@ -29,16 +35,142 @@ impl Answerer for Upgrading {
     }
 }
 
-fn sizes(alloc: Global, size: u64, count: u64) -> Result<List<u64>, Memory> {
-    let mut sizes = List::new(alloc);
-    for _ in 0..count {
-        sizes.push(size)?;
-    }
-    Ok(sizes)
+/// Why `Limited` refuses a call.
+#[derive(Drop)]
+enum Refusal {
+    /// The message of this index is one too many.
+    Full(u64),
+    Memory,
 }
 
-fn bytes(alloc: Global, input: &[u8]) -> Result<List<u8>, Memory> {
-    Ok(List::from_vec(Vec::from_slice(alloc, input)?))
+/// Answers so many messages, and refuses the next one.
+#[derive(Drop)]
+struct Limited {
+    most: u64,
+}
+
+impl Hearer for Limited {
+    ghost use Rattle.session_core.specs.declared.tests.Refusal.TheVariants.{Full, Memory};
+    ghost use Rattle.session_core.specs.declared.stops.Stop.TheVariants as stop;
+
+    type Out = Given;
+
+    type Refusal = Refusal;
+
+    ghost tells = { λ _ _ _ _. Unit {0} };
+
+    ghost misses = { λ _ _ _ _. Unit {0} };
+
+    ghost stop_of = { elim [ Full index ↦ stop.Full index | Memory ↦ stop.Memory ] };
+
+    ghost same = { λ _ _. Unit {0} };
+
+    ghost same_self = { λ _. tt };
+
+    ghost same_on = { λ _ _ _ _ _. tt };
+
+    fn hear(&mut self, alloc: Global, index: u64, call: &Call) -> Result<Given, Refusal> {
+        if index >= self.most {
+            return Err(Refusal::Full(index));
+        }
+        match Upgrading.answer(alloc, call) {
+            Ok(replies) => Ok(replies),
+            Err(_) => Err(Refusal::Memory),
+        }
+    }
+
+    fn stop(refusal: Refusal) -> Stop {
+        match refusal {
+            Refusal::Full(index) => Stop::Full { bytes: index },
+            Refusal::Memory => Stop::Memory,
+        }
+    }
+}
+
+/// A link whose client sends the next piece only once something was put for each piece before. It
+/// counts the pieces and the puts.
+#[derive(Drop)]
+struct Client<'a> {
+    calls: &'a [u8],
+    piece: usize,
+    pieces: u64,
+    puts: u64,
+    finished: bool,
+}
+
+impl Ends for Client<'_> {
+    ghost finished = { λ client. client.finished };
+}
+
+impl Source for Client<'_> {
+    fn take(&mut self, into: &mut [u8]) -> Result<usize, Failed> {
+        if self.puts < self.pieces {
+            return Ok(0);
+        }
+        let count = self.piece.min(self.calls.len()).min(into.len());
+        let (piece, later) = self.calls.split_at(count);
+        into[..count].copy_from_slice(piece);
+        self.calls = later;
+        self.pieces = self.pieces.saturating_add(1);
+        Ok(count)
+    }
+}
+
+impl Sink for Client<'_> {
+    fn put(&mut self, piece: &[u8]) -> Result<usize, Failed> {
+        self.puts = self.puts.saturating_add(1);
+        Ok(piece.len())
+    }
+
+    fn finish(&mut self) -> Result<(), Failed> {
+        self.finished = true;
+        Ok(())
+    }
+}
+
+/// Serves calls, so many bytes a piece, and gives the stop with the numbers of pieces and puts.
+fn served(alloc: Global, calls: &[u8], piece: usize, most: u64) -> (Stop, u64, u64) {
+    let mut client = Client {
+        calls,
+        piece,
+        pieces: 0,
+        puts: 0,
+        finished: false,
+    };
+    let stop = serve_link(alloc, &mut client, &mut Limited { most });
+    (stop, client.pieces, client.puts)
+}
+
+#[test]
+fn replies_are_put_before_the_next_take_and_a_hundred_at_once(rt: HostRuntime) -> Result<(), Fail> {
+    let call = "{\"method\":\"a.b.C\"}\0";
+    let calls = call.repeat(rt.alloc(), 100)?;
+    let rows = [
+        (call.len(), 100, Stop::End, 101, 100),
+        (calls.len(), 100, Stop::End, 2, 1),
+        (call.len(), 2, Stop::Full { bytes: 2 }, 3, 2),
+    ];
+    for (piece, most, stop, pieces, puts) in rows {
+        assert_eq!(rt;
+            served(rt.alloc(), calls.as_bytes(), piece, most),
+            (stop, pieces, puts)
+        );
+    }
+    Ok(())
+}
+
+/// Serves this input in takes and puts of this size, and gives the stop and whether this was
+/// written.
+fn alone(alloc: Global, input: &str, output: &str, size: u64) -> Result<(Stop, bool), Memory> {
+    let bytes = List::from_vec(Vec::from_slice(alloc, input.as_bytes())?);
+    let mut source = MemSource::new(alloc, bytes, sizes(alloc, size)?, List::new(alloc))?;
+    let mut sink = MemSink::new(alloc, 64, sizes(alloc, size)?, List::new(alloc))?;
+    let stop = serve_alone(alloc, &mut source, &mut sink, &mut Upgrading);
+    Ok((stop, sink.bytes() == output.as_bytes()))
+}
+
+fn sizes(alloc: Global, size: u64) -> Result<List<u64>, Memory> {
+    Ok(List::from_vec(vec![in alloc; size; 100]?))
 }
 
 #[test]
@@ -56,45 +188,65 @@ fn raw_bytes_follow_an_upgrade(rt: HostRuntime) -> Result<(), Fail> {
         ),
     ];
     for (input, output, stop) in rows {
-        for size in [1, 7, 4096] {
-            let alloc = rt.alloc();
-            let input = bytes(alloc, input.as_bytes())?;
-            let mut source = MemSource::new(
-                alloc,
-                input,
-                sizes(alloc, size, 100)?,
-                List::new(alloc),
-            )?;
-            let mut sink = MemSink::new(alloc, 64, sizes(alloc, size, 100)?, List::new(alloc))?;
-            assert_eq!(rt;
-                serve_alone(alloc, &mut source, &mut sink, &mut Upgrading),
-                stop
-            );
-            assert_eq!(rt; sink.bytes(), output.as_bytes());
+        for size in [1, 4096] {
+            assert_eq!(rt; alone(rt.alloc(), input, output, size)?, (stop, true));
         }
     }
     Ok(())
 }
 
+/// The replies to a call.
+fn replies_to(alloc: Global, call: Call) -> Result<Given, Memory>
+    requires { IsObject call.parameters }
+    ensures { IfOk result (λ given. AllByRecursion IsWritable given.replies) }
+{
+    Upgrading.answer(alloc, &call)
+}
+
+/// Answers the call held, and passes the raw bytes on that follow it.
+fn stepped(alloc: Global, session: &mut Session, sink: &mut MemSink) -> Option<Stop>
+    requires idle { IsIdle session.old.phase }
+    requires unfinished { sink.old.finished ≡ false }
+{
+    let replies = match session.next(alloc) {
+        Turn::Call(call) => replies_to(alloc, call),
+        turn => {
+            drop(turn);
+            return None;
+        }
+    };
+    let Ok(mut replies) = replies else {
+        return None;
+    };
+    let given = session.give(alloc, &mut replies, sink);
+    drop(replies);
+    if given.is_err() {
+        return None;
+    }
+    match session.next(alloc) {
+        Turn::Raw(_) => {}
+        turn => {
+            drop(turn);
+            return None;
+        }
+    }
+    if session.pump(sink).is_err() {
+        return None;
+    }
+    Some(session.end())
+}
+
 #[test]
 fn a_session_goes_step_by_step(rt: HostRuntime) -> Result<(), Fail> {
     let alloc = rt.alloc();
-    let mut session = Session::new(alloc, 64)?;
     let mut sink = MemSink::new(alloc, 64, List::new(alloc), List::new(alloc))?;
+    let mut session = Session::new(alloc, 64)?;
+    let taken = session.feed(b"{\"method\":\"a.b.C\",\"upgrade\":true}\0x");
+    let stop = stepped(alloc, &mut session, &mut sink);
+    assert_eq!(rt; (taken, session.taken(), session.index()), (35, 35, 1));
     assert_eq!(rt;
-        session.feed(b"{\"method\":\"a.b.C\",\"upgrade\":true}\0x"),
-        35
+        (stop, sink.bytes()),
+        (Some(Stop::Upgraded), b"{\"parameters\":{}}\0x".as_slice())
     );
-    assert_eq!(rt; session.taken(), 35);
-    let Turn::Call(call) = session.next(alloc) else {
-        panic!(rt; "no call")
-    };
-    assert_eq!(rt; call.method.as_str(), "a.b.C");
-    let mut replies = Upgrading.answer(alloc, &call)?;
-    assert_eq!(rt; session.give(alloc, &mut replies, &mut sink), Ok(()));
-    assert!(rt; matches!(session.next(alloc), Turn::Raw(Raw::Echo)));
-    assert_eq!(rt; session.pump(&mut sink), Ok(()));
-    assert_eq!(rt; session.end(), Stop::Upgraded);
-    assert_eq!(rt; sink.bytes(), b"{\"parameters\":{}}\0x".as_slice());
     Ok(())
 }

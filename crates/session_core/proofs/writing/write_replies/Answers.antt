@@ -1,10 +1,12 @@
-use Rattle.std.proofs.Common.{ℕ, List, [], ◌∷◌, ◌++◌, ◌∙◌, ap, sym, subst, append_assoc}
+use Rattle.std.proofs.Common.{ℕ, refl, List, [], ◌∷◌, ◌++◌, ◌∙◌, ap, sym, subst, append_assoc}
 use Rattle.std.specs.List.{AllByRecursion}
 use Rattle.call_form.specs.declared.Outcome.{Outcome}
 use Rattle.call_form.specs.declared.Reply.{Reply}
 use Rattle.call_form.specs.ReplyText.{IsWritable}
+use Rattle.session_core.specs.Sent.{sent, Sends}
 use Rattle.session_core.specs.Writes.{BreaksOff}
-use Rattle.session_core.proofs.WriteLemmas.{BreaksWithin-none, BreaksOff-after, Appends-reply}
+use Rattle.session_core.proofs.SentLemmas.{Sends-nil}
+use Rattle.session_core.proofs.WriteLemmas.{BreaksWithin-none, BreaksOff-after, Sends-reply}
 use Rattle.session_core.proofs.writing.write_replies.Goals as goal
 
 pub replies-preserved : goal.replies-preserved
@@ -18,10 +20,12 @@ replies-preserved g c =
       split = earlier.split ∙ ap (λ (replies : List Reply). earlier.done ++ replies) first
           ∙ sym (append_assoc earlier.done (reply ∷ []) (g.P.Replies.left c.next.new.self).replies);
       raw = sym (ap (λ (outcome : Outcome). outcome.raw) given) ∙ earlier.raw;
-      wrote = Appends-reply earlier.done reply _ _ _ earlier.wrote c.in-Ok.ensures.wrote;
+      wrote = Sends-reply earlier.done reply _ _ _ earlier.wrote c.in-Ok.ensures.wrote;
       faults = c.in-Ok.ensures.sound ∙ earlier.faults;
       left = c.write_reply.ensures.other.0 ∙ earlier.left;
       read_faults = c.write_reply.ensures.other.1 ∙ earlier.read_faults;
+      room = c.write_reply.ensures.room ∙ earlier.room;
+      unfinished = c.write_reply.ensures.unfinished;
       writable = (subst (λ (replies : List Reply). AllByRecursion IsWritable replies) first earlier.writable).1;
     }
 
@@ -32,8 +36,8 @@ returns-in-Err-write_reply-clause-part g c =
     let earlier = c.replies.invariant in
     BreaksOff-after c.in-Err-write_reply.stop earlier.done c.in-Ok-Some.reply (g.P.Replies.left c.next.new.self).replies _ _ _ _ _ _
     (earlier.split ∙ ap (λ (replies : List Reply). earlier.done ++ replies) first) earlier.wrote
-    (subst (λ (faults : ℕ). BreaksOff c.in-Err-write_reply.stop (c.in-Ok-Some.reply ∷ []) [] (g.K.Ends.written c.replies.sink)
-    (g.K.Ends.written c.write_reply.new.sink) faults (g.K.Ends.write_faults c.write_reply.new.sink))
+    (subst (λ (faults : ℕ). BreaksOff (Sends (sent (g.K.Ends.written c.replies.sink) c.replies.outbox)
+    (sent (g.K.Ends.written c.write_reply.new.sink) c.write_reply.new.outbox)) c.in-Err-write_reply.stop (c.in-Ok-Some.reply ∷ []) [] faults (g.K.Ends.write_faults c.write_reply.new.sink))
     earlier.faults c.in-Err-write_reply.ensures.part)
 
 pub returns-in-Err-clause-part : goal.returns-in-Err-clause-part
@@ -43,3 +47,17 @@ returns-in-Err-clause-part g c =
           (earlier.split ∙ ap (λ (outcome : Outcome). earlier.done ++ outcome.replies) (sym c.in-Err.ensures.memory)) earlier.wrote,
       earlier.faults,
     )
+
+pub replies-init : goal.replies-init
+replies-init g c = record {
+  done = [];
+  split = refl;
+  raw = refl;
+  wrote = Sends-nil _;
+  room = refl;
+  unfinished = c.requires.unfinished;
+  faults = refl;
+  left = refl;
+  read_faults = refl;
+  writable = c.requires.writable;
+}
