@@ -6,10 +6,18 @@ use Rattle.atomic_table.proofs.shared.Shared.TheSendSync as table
 use Rattle.atomic_table.proofs.shared.Seat.TheSendSync as seat
 use Rattle.atomic_table.proofs.send_lease.SendLease.TheSendSync as lease
 use Rattle.turn_desk.specs.contracts.passes.Holder as holder
+use Rattle.turn_desk.specs.contracts.ledgers.Kept as kept
+use Rattle.turn_desk.specs.contracts.ledgers.Forgotten as forgotten
 use Rattle.turn_desk.specs.contracts.views.Book as book
 use Rattle.turn_desk.specs.contracts.desks.Desk as desk
 use Rattle.turn_desk.specs.declared.objects.Object as object
 use Rattle.turn_desk.specs.declared.ledgers.Ledger as ledger
+
+pub kept_send : (Q : RattleType) → IsSend Q → IsSend (kept.the_row Q)
+kept_send Q q = search (sendable, crosses) depth 20
+
+pub forgotten_send : IsSend forgotten.the_row
+forgotten_send = search (sendable, crosses) depth 20
 
 pub book_send : (O L Q : RattleType) → IsSend O → IsSend L → IsSend (book.the_row O L Q)
 book_send O L Q s l = search (sendable, crosses) depth 20

@@ -1,5 +1,6 @@
 //! The answer to one request, on a book in hand.
-ghost use Rattle.std.specs.Prelude.{◌≡◌, ◌+◌, ◌<◌, ◌≤◌, List, [], ◌∷◌, ◌++◌, IfOk, IfErr, OnOk, OnErr};
+ghost use Rattle.std.specs.Prelude.{◌≡◌, ◌+◌, ◌<◌, ◌≤◌, List, [], ◌∷◌, ◌++◌};
+ghost use Rattle.std.specs.Prelude.{IfOk, IfErr, OnOk, OnErr};
 ghost use Rattle.turn_desk.specs.declared.objects.Entry.{Entry};
 ghost use Rattle.turn_desk.specs.Faults.{NotMade};
 ghost use Rattle.turn_desk.specs.Turns.{Grown, Unmoved};
@@ -22,7 +23,7 @@ fn heavier(weight: u64, request: u64, limit: u64) -> Result<u64, AskFault>
     }
 }
 
-/// Makes one step of the object and adds its entry, or leaves the object and the history as they were.
+/// Makes one step of the object and adds its entry, or leaves object and history as they were.
 fn step_within<O: Object, L: Ledger<O::Request>>(
     alloc: Global,
     object: &mut O,
@@ -49,7 +50,7 @@ fn step_within<O: Object, L: Ledger<O::Request>>(
     Ok((reply, sum))
 }
 
-/// Answers the request and adds its entry, or leaves the object and the history as they were.
+/// Answers the request and adds its entry, or leaves object and history as they were.
 pub(crate) fn answer<O: Object, L: Ledger<O::Request>>(
     alloc: Global,
     book: Book<O, L, O::Request>,

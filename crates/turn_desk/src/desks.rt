@@ -21,8 +21,8 @@ use std::marker::{Brand, Model};
 use std::snapshot::Snapshot;
 use std::sync::{Mutex, Wait};
 
-/// One object that many threads ask in turn, with a limit on what its history may weigh and a ledger of
-/// that history. It is shared by `&`, and each thread has a pass of its own.
+/// One object that many threads ask in turn, with a limit on what its history may weigh and a ledger
+/// of that history. It is shared by `&`, and each thread has a pass of its own.
 #[derive(Drop)]
 pub struct Desk<O: Object, L: Ledger<O::Request>> {
     table: Words<O, L>,
@@ -74,7 +74,8 @@ impl<O: Object, L: Ledger<O::Request>> Desk<O, L> {
     }
 
     /// Waits for a turn of its own, and answers one good request in it.
-    /// Each call spends an ask but where none is left. After `Full` and `Memory` the pass may have seen more.
+    /// Each call spends an ask but where none is left. After `Full` and `Memory` the pass may have
+    /// seen more.
     pub fn ask<R: Wait>(
         &self,
         rt: &R,

@@ -1,7 +1,8 @@
 //! The table that the threads share: its three words and its one slot, its rule, and what each kind
 //! of step tells the one that takes it.
 ghost use Rattle.std.specs.Prelude.{ℕ};
-ghost use Rattle.turn_desk.specs.Turns.{drew, looked, passed, numbered, settled, recalled, split_kept, split_given, joined, gone};
+ghost use Rattle.turn_desk.specs.Turns.{drew, looked, passed, numbered, settled, recalled};
+ghost use Rattle.turn_desk.specs.Turns.{split_kept, split_given, joined, gone};
 
 use crate::ledgers::Ledger;
 use crate::objects::Object;

@@ -10,7 +10,7 @@ pub struct Book<O, L, R> {
     pub ledger: L,
     /// What all entries of the history weigh.
     pub weight: u64,
-    /// The entry that the last turn has added, or none. It has no bytes, and the proofs alone read it.
+    /// The entry that the last turn has added, or none. Only the proofs read it.
     pub added: Option<Snapshot<Entry<R>>>,
 }
 

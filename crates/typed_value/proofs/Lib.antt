@@ -13,3 +13,4 @@ pub mod Rests
 pub mod StructBack
 pub mod Whole
 pub mod WholeOfType
+pub mod Sharing
