@@ -144,7 +144,7 @@ fn users_of(alloc: Global, members: &[Member], index: &Index) -> Result<Vec<List
     ensures size { IfOk result (λ users. length users.items ≡ length members.now) }
     ensures users { IfOk result (λ users. TellsUsers index.now members.now users.items) }
 {
-    let mut users = no_users(alloc, members)?;
+    let mut users = no_users(alloc, members)?.into_vec();
     for (place, member) in members.iter().enumerate() {
         let used = used_in(alloc, member, index)?;
         add_user(&mut users, used.as_slice(), place)?;
@@ -162,15 +162,13 @@ fn used_in(alloc: Global, member: &Member, index: &Index) -> Result<List<usize>,
     Ok(places)
 }
 
-fn no_users(alloc: Global, members: &[Member]) -> Result<Vec<List<usize>>, Memory>
-    ensures size { IfOk result (λ users. length users.items ≡ length members.now) }
-    ensures none { IfOk result (λ users. (p : ℕ) → users_at users.items p ≡ []) }
+fn no_users(alloc: Global, members: &[Member]) -> Result<List<List<usize>>, Memory>
+    ensures size { IfOk result (λ users. length users ≡ length members.now) }
+    ensures none { IfOk result (λ users. (p : ℕ) → users_at users p ≡ []) }
 {
-    let mut users = Vec::new(alloc);
+    let mut users = List::new(alloc);
     for _member in members {
-        if users.push(List::new(alloc)).is_err() {
-            return Err(Memory);
-        }
+        users.push(List::new(alloc))?;
     }
     Ok(users)
 }
@@ -191,14 +189,12 @@ fn add_user(users: &mut Vec<List<usize>>, places: &[usize], user: usize) -> Resu
 }
 
 // Whether `float` stands in each type.
-fn own_floats(alloc: Global, members: &[Member]) -> Result<Vec<bool>, Memory>
-    ensures { IfOk result (λ marks. marks.items ≡ map member_has_float members.now) }
+fn own_floats(alloc: Global, members: &[Member]) -> Result<List<bool>, Memory>
+    ensures { IfOk result (λ marks. marks ≡ map member_has_float members.now) }
 {
-    let mut marks = Vec::new(alloc);
+    let mut marks = List::new(alloc);
     for member in members {
-        if marks.push(member_has_float(member)).is_err() {
-            return Err(Memory);
-        }
+        marks.push(member_has_float(member))?;
     }
     Ok(marks)
 }
@@ -220,7 +216,7 @@ pub fn mark_floats(alloc: Global, tree: &Interface, index: &Index) -> Result<Vec
 {
     let members = tree.members.as_slice();
     let users = users_of(alloc, members, index)?;
-    let mut marks = own_floats(alloc, members)?;
+    let mut marks = own_floats(alloc, members)?.into_vec();
     mark_users(alloc, users.as_slice(), &mut marks)?;
     Ok(marks)
 }

@@ -5,6 +5,6 @@ use Rattle.idl_tree.proofs.floats.no_users.Given as goal
 abbrev pub invariant-loop-member : goal.invariant-loop-member
 invariant-loop-member l =
     record {
-      size : length l.users.items ≡ l._member-index;
-      none : (p : ℕ) → users_at l.users.items p ≡ [];
+      size : length l.users ≡ l._member-index;
+      none : (p : ℕ) → users_at l.users p ≡ [];
     }

@@ -3,4 +3,4 @@ use Rattle.idl_tree.specs.Floats.{member_has_float}
 use Rattle.idl_tree.proofs.floats.own_floats.Given as goal
 
 abbrev pub invariant-loop-member : goal.invariant-loop-member
-invariant-loop-member l = l.marks.items ≡ map member_has_float (take l.member-index l.members)
+invariant-loop-member l = l.marks ≡ map member_has_float (take l.member-index l.members)
