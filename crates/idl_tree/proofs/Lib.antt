@@ -5,5 +5,6 @@ pub mod MemberNames
 pub mod Opened
 pub mod OtherLengths
 pub mod Reaching
+pub mod Sharing
 pub mod Using
 pub mod Sharing
