@@ -1,3 +1,4 @@
 pub mod Joining
 pub mod ServiceLemmas
 pub mod SessionLemmas
+pub mod Telling

@@ -7,7 +7,7 @@ use Rattle.session_core.specs.declared.stops.Stop.{Stop}
 use Rattle.session_core.specs.Run.{run}
 use Rattle.session_core.specs.Served.{Told, ComesTo, Served}
 use Rattle.varlink_command.specs.FixedService.{fixed_outcome}
-use Rattle.varlink_command.specs.Offline.{SessionServed}
+use Rattle.varlink_command.specs.Sessions.{SessionServed}
 
 module _ {A : Type 0} where
   abbrev pub tells : A → Call → Outcome → A → Type 0

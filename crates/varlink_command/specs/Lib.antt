@@ -1,7 +1,10 @@
 pub mod Definitions
-pub mod FaultLine
+pub mod Ends
+pub mod Faults
+pub mod FaultTexts
 pub mod FixedService
 pub mod Lines
 pub mod Offline
-pub mod Statuses
+pub mod Sessions
 pub mod Words
+pub mod RealEnds

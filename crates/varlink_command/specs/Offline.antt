@@ -1,51 +1,44 @@
--- What a command did.
-use Rattle.std.specs.Prelude.{◌≡◌, ℕ, ◌≤◌, ◌⊎◌, List, length, map, Option, Some, None}
-use Rattle.std.specs.Io.KnownBytes.{Appends, Consumes}
+-- What each command does, and how its fault is told.
+use Rattle.std.specs.Prelude.{◌≡◌, ℕ, ◌⊎◌, List, Option, Some, None, Result, Ok, Err, ⊤}
+use Rattle.std.specs.Io.KnownBytes.{Appends}
 use Rattle.link_port.specs.Faults.{Rises}
 use Rattle.link_port.specs.Flow.{AppendsFront}
-use Rattle.call_form.specs.declared.Call.{Call}
-use Rattle.call_form.specs.declared.TheConstants.{CALL_LIMIT}
-use Rattle.session_core.specs.declared.stops.Stop.{Stop}
-use Rattle.session_core.specs.Limits.{most_bytes}
-use Rattle.session_core.specs.Run.{run}
-use Rattle.session_core.specs.Served.{ComesTo, TakesAll, ReadFaults, WriteFaults}
-use Rattle.varlink_command.specs.declared.fault_lines.Fault.{Fault}
-use Rattle.varlink_command.specs.FaultLine.{fault_line}
-use Rattle.varlink_command.specs.FixedService.{fixed_outcome}
-use Rattle.varlink_command.specs.Statuses.{fault_of, status}
+use Rattle.varlink_command.specs.declared.faults.Fault.{Fault}
+use Rattle.varlink_command.specs.declared.faults.Fault.TheVariants as fault
+use Rattle.varlink_command.specs.declared.showing.Showing.TheVariants as showing
+use Rattle.varlink_command.specs.declared.words.Command.{Command}
+use Rattle.varlink_command.specs.declared.words.Command.TheVariants.{Session, Check, Format}
+use Rattle.varlink_command.specs.Definitions.{ShowsDefinition}
+use Rattle.varlink_command.specs.Ends.{Ends, Object, PutsNothing}
+use Rattle.varlink_command.specs.Faults.{status_of}
+use Rattle.varlink_command.specs.FaultTexts.{fault_line}
+use Rattle.varlink_command.specs.Sessions.{ServesSession}
+use Rattle.varlink_command.specs.Words.{command, path_of}
 
--- a line was written to the sink of faults, or that sink failed and a front of the line stands there
-abbrev pub TellsLine : List ℕ → Option (List ℕ) → Option (List ℕ) → ℕ → ℕ → Type 0
-TellsLine line before now faults faults' =
-    (Appends before now line × (faults' ≡ faults)) ⊎ (AppendsFront before now line × Rises faults faults')
+-- what the command on this path did, and what it came to
+abbrev pub Ran : Option Command → List ℕ → Ends → Ends → Result ⊤ Fault → Type 0
+-- no command: nothing
+Ran None path before after outcome = outcome ≡ Err fault.BadWords
+-- `session`: the session machine from the input to the output
+Ran (Some Session) path before after outcome = ServesSession before after outcome
+-- `check PATH`: the name of the definition in that file
+Ran (Some Check) path before after outcome = ShowsDefinition showing.Name path before after outcome
+-- `format PATH`: its canonical text
+Ran (Some Format) path before after outcome = ShowsDefinition showing.Text path before after outcome
 
--- the line of a fault was told; where there is no fault, nothing was written
-abbrev pub Tells : Option Fault → Option (List ℕ) → Option (List ℕ) → ℕ → ℕ → Type 0
-Tells None before now faults faults' = (now ≡ before) × (faults' ≡ faults)
-Tells (Some why) before now faults faults' = TellsLine (fault_line why) before now faults faults'
+-- a line was put, or the sink failed and a front of the line was put
+abbrev pub TellsLine : List ℕ → Object → Object → Type 0
+TellsLine line before after =
+    (Appends before.written after.written line × (after.write_faults ≡ before.write_faults))
+    ⊎ (AppendsFront before.written after.written line × Rises before.write_faults after.write_faults)
 
--- `session` was served without a sheet: these bytes were taken, these calls were answered, each by the fixed service, and
--- what was written and the stop are those of the session machine over these bytes
-pub record SessionServed (left left' written written' : Option (List ℕ)) (why : Stop) : Type 0 where
-  pub taken : List ℕ
-  pub calls : List Call
-  pub out : List ℕ
-  pub consumed : Consumes left left' taken
-  pub most : length taken ≤ most_bytes
-  pub wrote : Appends written written' out
-  pub comes : ComesTo (run CALL_LIMIT taken (map fixed_outcome calls)) calls out why
-  pub all : TakesAll why left taken
+-- a command that did all has status 0 and tells nothing; else it has the status of its fault, and tells it by one line
+abbrev pub Concludes : List ℕ → Result ⊤ Fault → Object → Object → ℕ → Type 0
+Concludes path (Ok done) before after status = PutsNothing before after × (status ≡ 0)
+Concludes path (Err why) before after status = TellsLine (fault_line path why) before after × (status ≡ status_of why)
 
--- one side of an object: the bytes that it tells, and the count of its faults
-pub record Side : Type 0 where
-  pub bytes : Option (List ℕ)
-  pub faults : ℕ
-
--- what the command `session` did to the input, the output and the sink of faults, and its status
-pub record RunsSession (input input' output output' faults faults' : Side) (result : ℕ) : Type 0 where
-  pub why : Stop
-  pub served : SessionServed input.bytes input'.bytes output.bytes output'.bytes why
-  pub reads : ReadFaults why input.faults input'.faults
-  pub writes : WriteFaults why output.faults output'.faults
-  pub line : Tells (fault_of why) faults.bytes faults'.bytes faults.faults faults'.faults
-  pub status : result ≡ status (fault_of why)
+-- the command that these words mean ran, and its fault was told
+pub record Runs (words : List (List ℕ)) (before after : Ends) (status : ℕ) : Type 0 where
+  pub outcome : Result ⊤ Fault
+  pub ran : Ran (command words) (path_of words) before after outcome
+  pub told : Concludes (path_of words) outcome before.faults after.faults status

@@ -1,17 +1,19 @@
 // The top call of the commands that need no network.
-ghost use Rattle.std.specs.Prelude.{◌≡◌, ◌≢◌, ℕ, List, Some, None};
+ghost use Rattle.std.specs.Prelude.{◌≡◌, ◌≢◌, [], Some, None, Err};
 ghost use Rattle.link_port.specs.Flow.{IsAsBefore};
-ghost use Rattle.varlink_command.specs.Statuses.{fault_of as stop_fault, status, status_of as fault_status};
-ghost use Rattle.varlink_command.specs.Offline.{RunsSession, Tells};
-ghost use Rattle.varlink_command.specs.Definitions.{AsksOnce, EndsShown, RunsDefinition};
+ghost use Rattle.varlink_command.specs.Definitions.{ShowsDefinition};
+ghost use Rattle.varlink_command.specs.Ends.{KeepsOthers};
+ghost use Rattle.varlink_command.specs.Offline.{Concludes, Ran, Runs};
+ghost use Rattle.varlink_command.specs.Sessions.{ServesSession, outcome_of as stop_outcome};
 ghost use Rattle.varlink_command.specs.Words.{command, path_of as path_word};
 
-use crate::definitions::{read_definition, tell_unread};
-use crate::fault_lines::{Fault, write_fault_line};
+use crate::fault_lines::write_fault_line;
+use crate::faults::Fault;
+use crate::reading::read_definition;
 use crate::services::FixedService;
-use crate::showing::{Showing, Unshown, show};
+use crate::showing::{Showing, show};
 use crate::words::{Command, command_of, path_of};
-use crate::worlds::{Desktop, Status};
+use crate::worlds::{Desktop, Status, World};
 use link_port::{Files, Sink, Source, Text};
 use session_core::{Stop, serve_alone};
 use std::alloc::Global;
@@ -28,138 +30,57 @@ pub fn offline<S: Source, O: Sink, E: Sink, F: Files>(
     words: &[Text],
     world: &mut Desktop<S, O, E, F>,
 ) -> Status
-    ensures refused { command words.now ≡ None →
-        (result.0 ≡ 1) × (world.new ≡ record world.old { faults = world.new.faults })
-        × Tells (Some Fault.BadWords) (E.written world.old.faults) (E.written world.new.faults)
-        (E.write_faults world.old.faults) (E.write_faults world.new.faults) }
-
-    ensures session { command words.now ≡ Some Command.Session → RunsSession
-        (record { bytes = S.left world.old.input; faults = S.read_faults world.old.input })
-        (record { bytes = S.left world.new.input; faults = S.read_faults world.new.input })
-        (record { bytes = O.written world.old.output; faults = O.write_faults world.old.output })
-        (record { bytes = O.written world.new.output; faults = O.write_faults world.new.output })
-        (record { bytes = E.written world.old.faults; faults = E.write_faults world.old.faults })
-        (record { bytes = E.written world.new.faults; faults = E.write_faults world.new.faults })
-        result.0 }
-
-    ensures check { command words.now ≡ Some Command.Check
-        → RunsDefinition Showing.Name (path_word words.now)
-        (F.holds world.old.files (path_word words.now))
-        (F.faults world.old.files) (F.faults world.new.files)
-        (record { bytes = O.written world.old.output; faults = O.write_faults world.old.output })
-        (record { bytes = O.written world.new.output; faults = O.write_faults world.new.output })
-        (record { bytes = E.written world.old.faults; faults = E.write_faults world.old.faults })
-        (record { bytes = E.written world.new.faults; faults = E.write_faults world.new.faults })
-        result.0 }
-
-    ensures format { command words.now ≡ Some Command.Format
-        → RunsDefinition Showing.Text (path_word words.now)
-        (F.holds world.old.files (path_word words.now))
-        (F.faults world.old.files) (F.faults world.new.files)
-        (record { bytes = O.written world.old.output; faults = O.write_faults world.old.output })
-        (record { bytes = O.written world.new.output; faults = O.write_faults world.new.output })
-        (record { bytes = E.written world.old.faults; faults = E.write_faults world.old.faults })
-        (record { bytes = E.written world.new.faults; faults = E.write_faults world.new.faults })
-        result.0 }
-
-    ensures files { command words.now ≡ Some Command.Session → world.new.files ≡ world.old.files }
-    ensures asked { AsksOnce (F.paths world.old.files) (F.paths world.new.files) (path_word words.now) }
+    // each command, in a line of its own: `Ran`
+    ensures runs { Runs words.now (⟦<Desktop<S, O, E, F> as World>⟧.ends world.old)
+        (⟦<Desktop<S, O, E, F> as World>⟧.ends world.new) result.0 }
+    // what files hold, and the sides that no command uses, stay as they were
+    ensures kept { KeepsOthers (⟦<Desktop<S, O, E, F> as World>⟧.ends world.old)
+        (⟦<Desktop<S, O, E, F> as World>⟧.ends world.new) }
+    // what a command does not use is not touched
     ensures input { command words.now ≢ Some Command.Session → world.new.input ≡ world.old.input }
-    ensures kept { (name : List ℕ) → F.holds world.new.files name ≡ F.holds world.old.files name }
-    ensures input_other { IsAsBefore (S.written world.old.input) (S.written world.new.input)
-        (S.write_faults world.old.input) (S.write_faults world.new.input) }
-    ensures output_other { IsAsBefore (O.left world.old.output) (O.left world.new.output)
-        (O.read_faults world.old.output) (O.read_faults world.new.output) }
-    ensures faults_other { IsAsBefore (E.left world.old.faults) (E.left world.new.faults)
-        (E.read_faults world.old.faults) (E.read_faults world.new.faults) }
+    ensures files { command words.now ≡ Some Command.Session → world.new.files ≡ world.old.files }
+    ensures refused { command words.now ≡ None
+        → world.new ≡ record world.old { faults = world.new.faults } }
+{
+    let outcome = run(alloc, words, world);
+    conclude(&mut world.faults, path_of(words), outcome)
+}
+
+// Does what the words mean, but for telling a fault.
+fn run<S: Source, O: Sink, E: Sink, F: Files>(
+    alloc: Global,
+    words: &[Text],
+    world: &mut Desktop<S, O, E, F>,
+) -> Result<(), Fault>
+    ensures ran { Ran (command words.now) (path_word words.now)
+        (⟦<Desktop<S, O, E, F> as World>⟧.ends world.old)
+        (⟦<Desktop<S, O, E, F> as World>⟧.ends world.new) result }
+    ensures kept { KeepsOthers (⟦<Desktop<S, O, E, F> as World>⟧.ends world.old)
+        (⟦<Desktop<S, O, E, F> as World>⟧.ends world.new) }
+    ensures faults { world.new.faults ≡ world.old.faults }
+    ensures input { command words.now ≢ Some Command.Session → world.new.input ≡ world.old.input }
+    ensures files { command words.now ≡ Some Command.Session → world.new.files ≡ world.old.files }
+    ensures refused { command words.now ≡ None → world.new ≡ world.old }
 {
     match command_of(words) {
         Some(Command::Session) => session(alloc, world),
         Some(Command::Check) => definition(alloc, Showing::Name, path_of(words), world),
         Some(Command::Format) => definition(alloc, Showing::Text, path_of(words), world),
-        None => refuse(world, Fault::BadWords),
+        None => Err(Fault::BadWords),
     }
 }
 
-/// Reads the definition at this path, and shows it or tells why it is none.
-fn definition<S, O: Sink, E: Sink, F: Files>(
+// Serves the calls that come from the input by the service without a sheet.
+fn session<S: Source, O: Sink, E: Sink, F: Files>(
     alloc: Global,
-    showing: Showing,
-    path: &str,
     world: &mut Desktop<S, O, E, F>,
-) -> Status
-    ensures runs { RunsDefinition showing path.now (F.holds world.old.files path.now)
-        (F.faults world.old.files) (F.faults world.new.files)
-        (record { bytes = O.written world.old.output; faults = O.write_faults world.old.output })
-        (record { bytes = O.written world.new.output; faults = O.write_faults world.new.output })
-        (record { bytes = E.written world.old.faults; faults = E.write_faults world.old.faults })
-        (record { bytes = E.written world.new.faults; faults = E.write_faults world.new.faults })
-        result.0 }
-    ensures input { world.new.input ≡ world.old.input }
-    ensures output_other { IsAsBefore (O.left world.old.output) (O.left world.new.output)
-        (O.read_faults world.old.output) (O.read_faults world.new.output) }
-    ensures faults_other { IsAsBefore (E.left world.old.faults) (E.left world.new.faults)
-        (E.read_faults world.old.faults) (E.read_faults world.new.faults) }
-    ensures asked { AsksOnce (F.paths world.old.files) (F.paths world.new.files) path.now }
-    ensures kept { (name : List ℕ) → F.holds world.new.files name ≡ F.holds world.old.files name }
-{
-    match read_definition(alloc, &mut world.files, path) {
-        Ok(tree) => {
-            let result = show(alloc, showing, &tree, &mut world.output);
-            conclude_shown(&mut world.faults, result)
-        }
-        Err(why) => tell_unread(&mut world.faults, path, &why),
-    }
-}
-
-/// Tells why a definition was not shown, if it was not, and gives the status.
-fn conclude_shown<E: Sink>(faults: &mut E, shown: Result<(), Unshown>) -> Status
-    ensures ends { EndsShown
-        (record { bytes = E.written faults.old; faults = E.write_faults faults.old })
-        (record { bytes = E.written faults.new; faults = E.write_faults faults.new })
-        result.0 shown }
-    ensures other { IsAsBefore (E.left faults.old) (E.left faults.new)
-        (E.read_faults faults.old) (E.read_faults faults.new) }
-{
-    conclude(
-        faults,
-        match shown {
-            Ok(()) => None,
-            Err(Unshown::WriteFault) => Some(Fault::WriteFault),
-            Err(Unshown::Memory) => Some(Fault::Memory),
-        },
-    )
-}
-
-/// Tells a fault, and gives its status. Nothing but the sink of faults changes.
-pub fn refuse<S, O, E: Sink, F>(world: &mut Desktop<S, O, E, F>, fault: Fault) -> Status
-    ensures status { result.0 ≡ fault_status fault }
-    ensures line { Tells (Some fault) (E.written world.old.faults) (E.written world.new.faults)
-        (E.write_faults world.old.faults) (E.write_faults world.new.faults) }
-    ensures rest { world.new ≡ record world.old { faults = world.new.faults } }
-    ensures other { IsAsBefore (E.left world.old.faults) (E.left world.new.faults)
-        (E.read_faults world.old.faults) (E.read_faults world.new.faults) }
-{
-    conclude(&mut world.faults, Some(fault))
-}
-
-/// Serves the calls that come from the input by the service without a sheet.
-fn session<S: Source, O: Sink, E: Sink, F>(alloc: Global, world: &mut Desktop<S, O, E, F>) -> Status
-    ensures runs { RunsSession
-        (record { bytes = S.left world.old.input; faults = S.read_faults world.old.input })
-        (record { bytes = S.left world.new.input; faults = S.read_faults world.new.input })
-        (record { bytes = O.written world.old.output; faults = O.write_faults world.old.output })
-        (record { bytes = O.written world.new.output; faults = O.write_faults world.new.output })
-        (record { bytes = E.written world.old.faults; faults = E.write_faults world.old.faults })
-        (record { bytes = E.written world.new.faults; faults = E.write_faults world.new.faults })
-        result.0 }
+) -> Result<(), Fault>
+    ensures serves { ServesSession (⟦<Desktop<S, O, E, F> as World>⟧.ends world.old)
+        (⟦<Desktop<S, O, E, F> as World>⟧.ends world.new) result }
+    ensures kept { KeepsOthers (⟦<Desktop<S, O, E, F> as World>⟧.ends world.old)
+        (⟦<Desktop<S, O, E, F> as World>⟧.ends world.new) }
+    ensures faults { world.new.faults ≡ world.old.faults }
     ensures files { world.new.files ≡ world.old.files }
-    ensures input_other { IsAsBefore (S.written world.old.input) (S.written world.new.input)
-        (S.write_faults world.old.input) (S.write_faults world.new.input) }
-    ensures output_other { IsAsBefore (O.left world.old.output) (O.left world.new.output)
-        (O.read_faults world.old.output) (O.read_faults world.new.output) }
-    ensures faults_other { IsAsBefore (E.left world.old.faults) (E.left world.new.faults)
-        (E.read_faults world.old.faults) (E.read_faults world.new.faults) }
 {
     let stop = serve_alone(
         alloc,
@@ -167,51 +88,77 @@ fn session<S: Source, O: Sink, E: Sink, F>(alloc: Global, world: &mut Desktop<S,
         &mut world.output,
         &mut FixedService,
     );
-    conclude(&mut world.faults, fault_of(stop))
+    outcome_of(stop)
 }
 
-/// The fault that a stop is, if it is one.
-fn fault_of(stop: Stop) -> Option<Fault>
-    ensures { result ≡ stop_fault stop }
+// Reads the definition at this path, and shows it.
+fn definition<S: Source, O: Sink, E: Sink, F: Files>(
+    alloc: Global,
+    showing: Showing,
+    path: &str,
+    world: &mut Desktop<S, O, E, F>,
+) -> Result<(), Fault>
+    ensures shows { ShowsDefinition showing path.now
+        (⟦<Desktop<S, O, E, F> as World>⟧.ends world.old)
+        (⟦<Desktop<S, O, E, F> as World>⟧.ends world.new) result }
+    ensures kept { KeepsOthers (⟦<Desktop<S, O, E, F> as World>⟧.ends world.old)
+        (⟦<Desktop<S, O, E, F> as World>⟧.ends world.new) }
+    ensures faults { world.new.faults ≡ world.old.faults }
+    ensures input { world.new.input ≡ world.old.input }
 {
-    match stop {
-        Stop::End | Stop::Upgraded | Stop::Full { .. } | Stop::Worn => None,
-        Stop::Cut { bytes } => Some(Fault::Cut { length: bytes }),
-        Stop::NotCall { index, .. } => Some(Fault::NotCall { index }),
-        Stop::TooLong { index } => Some(Fault::TooLong { index }),
-        Stop::ReadFault => Some(Fault::ReadFault),
-        Stop::WriteFault => Some(Fault::WriteFault),
-        Stop::Long => Some(Fault::Long),
-        Stop::Memory => Some(Fault::Memory),
+    match read_definition(alloc, &mut world.files, path) {
+        Ok(tree) => show(alloc, showing, &tree, &mut world.output),
+        Err(fault) => Err(fault),
     }
 }
 
-/// The status that tells a fault.
-fn status_of(fault: Fault) -> Status
-    ensures { result.0 ≡ fault_status fault }
+// What a command that serves a session comes to, where the session stopped so.
+fn outcome_of(stop: Stop) -> Result<(), Fault>
+    ensures { result ≡ stop_outcome stop }
 {
-    Status(match fault {
-        Fault::BadWords => 1,
-        Fault::Cut { .. } | Fault::NotCall { .. } | Fault::TooLong { .. } => 3,
-        Fault::ReadFault => 5,
-        Fault::WriteFault => 6,
-        Fault::Memory => 7,
-        Fault::Long => 8,
-    })
+    match stop {
+        Stop::End | Stop::Upgraded | Stop::Full { .. } | Stop::Worn => Ok(()),
+        Stop::Cut { bytes } => Err(Fault::Cut { bytes }),
+        Stop::NotCall { index, .. } => Err(Fault::NotCall { index }),
+        Stop::TooLong { index } => Err(Fault::TooLong { index }),
+        Stop::ReadFault => Err(Fault::ReadFault),
+        Stop::WriteFault => Err(Fault::WriteFault),
+        Stop::Long => Err(Fault::Long),
+        Stop::Memory => Err(Fault::Memory),
+    }
 }
 
-/// Writes the line of a fault, if there is one, and gives the status. That the line cannot be
-/// written changes nothing.
-fn conclude<E: Sink>(faults: &mut E, fault: Option<Fault>) -> Status
-    ensures status { result.0 ≡ status fault }
-    ensures line { Tells fault (E.written faults.old) (E.written faults.new)
-        (E.write_faults faults.old) (E.write_faults faults.new) }
+/// Tells a fault that came before a command could be known, and gives its status. Nothing but the sink
+/// of faults changes.
+pub fn refuse<S, O, E: Sink, F>(world: &mut Desktop<S, O, E, F>, fault: Fault) -> Status
+    ensures told { Concludes [] (Err fault)
+        (record { left = E.left world.old.faults; read_faults = E.read_faults world.old.faults;
+            written = E.written world.old.faults; write_faults = E.write_faults world.old.faults })
+        (record { left = E.left world.new.faults; read_faults = E.read_faults world.new.faults;
+            written = E.written world.new.faults; write_faults = E.write_faults world.new.faults })
+        result.0 }
+    ensures rest { world.new ≡ record world.old { faults = world.new.faults } }
+{
+    conclude(&mut world.faults, "", Err(fault))
+}
+
+// Tells the fault that a command on this path came to, if it is one, and gives the status. That the line
+// cannot be written changes nothing.
+fn conclude<E: Sink>(faults: &mut E, path: &str, outcome: Result<(), Fault>) -> Status
+    ensures told { Concludes path.now outcome
+        (record { left = E.left faults.old; read_faults = E.read_faults faults.old;
+            written = E.written faults.old; write_faults = E.write_faults faults.old })
+        (record { left = E.left faults.new; read_faults = E.read_faults faults.new;
+            written = E.written faults.new; write_faults = E.write_faults faults.new })
+        result.0 }
     ensures other { IsAsBefore (E.left faults.old) (E.left faults.new)
         (E.read_faults faults.old) (E.read_faults faults.new) }
 {
-    let Some(fault) = fault else {
-        return Status(0);
-    };
-    let _ = write_fault_line(faults, fault);
-    status_of(fault)
+    match outcome {
+        Ok(()) => Status(0),
+        Err(fault) => {
+            let _ = write_fault_line(faults, path, &fault);
+            fault.status()
+        }
+    }
 }

@@ -2,9 +2,10 @@
 #![tactic(auto)]
 
 mod commands;
-mod definitions;
 mod fault_lines;
+mod faults;
 mod pieces;
+mod reading;
 mod real_files;
 mod real_streams;
 mod services;
@@ -13,14 +14,13 @@ mod words;
 mod worlds;
 
 pub use commands::{offline, refuse};
-pub use fault_lines::{Fault, write_fault_line};
+pub use fault_lines::write_fault_line;
+pub use faults::Fault;
 pub use real_files::RealFiles;
 pub use real_streams::{RealInput, RealOutput};
-pub use worlds::{Desktop, Status};
+pub use worlds::{Desktop, Status, World};
 
 #[cfg(test)]
-mod definition_tests;
-#[cfg(test)]
-mod session_tests;
+mod rows;
 #[cfg(test)]
 mod tests;

@@ -1,5 +1,9 @@
-// The ends of the real console. They tell no bytes, and count each error of the system.
-ghost use Rattle.std.specs.Prelude.{◌≡◌, ◌≤◌, IfOk, length};
+// The ends of the real console: what they give and take is what the system's objects give and take, as
+// far as these tell it. They count each error of the system.
+ghost use Rattle.std.specs.Prelude.{◌≡◌, ◌≤◌, ◌<◌, IfOk, OnOk, OnErr, length};
+ghost use Rattle.std.specs.Io.KnownBytes.{Keeps, ReadConsumes, WriteAppends};
+ghost use Rattle.link_port.specs.Faults.{one_more};
+ghost use Rattle.varlink_command.specs.RealEnds.{reader_of, writer_of, read_faults_of, write_faults_of};
 
 use link_port::{Ends, Failed, Sink, Source};
 use std::io;
@@ -15,7 +19,8 @@ pub struct RealInput<R> {
 impl<R> RealInput<R> {
     /// A source over a reader, without a fault so far.
     pub fn new(reader: R) -> RealInput<R>
-        ensures { ⟦<RealInput<R> as Ends>⟧.read_faults result ≡ 0 }
+        ensures sound { ⟦<RealInput<R> as Ends>⟧.read_faults result ≡ 0 }
+        ensures over { reader_of result ≡ reader }
     {
         RealInput { reader, faults: 0 }
     }
@@ -26,7 +31,13 @@ impl<R> Ends for RealInput<R> {
 }
 
 impl<R: Read> Source for RealInput<R> {
-    fn take(&mut self, into: &mut [u8]) -> Result<usize, Failed> {
+    fn take(&mut self, into: &mut [u8]) -> Result<usize, Failed>
+        ensures bound { IfOk result (λ n. n ≤ length into.new) }
+        ensures bytes { ReadConsumes (R.remaining (reader_of self.old))
+            (R.remaining (reader_of self.new)) result into.new }
+        ensures sound { OnOk result (read_faults_of self.new ≡ read_faults_of self.old) }
+        ensures fault { OnErr result (read_faults_of self.new ≡ one_more (read_faults_of self.old)) }
+    {
         match read_uninterrupted(&mut self.reader, into) {
             Ok(count) => Ok(count),
             Err(_) => {
@@ -47,7 +58,8 @@ pub struct RealOutput<W> {
 impl<W> RealOutput<W> {
     /// A sink over a writer, without a fault so far.
     pub fn new(writer: W) -> RealOutput<W>
-        ensures { ⟦<RealOutput<W> as Ends>⟧.write_faults result ≡ 0 }
+        ensures sound { ⟦<RealOutput<W> as Ends>⟧.write_faults result ≡ 0 }
+        ensures over { writer_of result ≡ writer }
     {
         RealOutput { writer, faults: 0 }
     }
@@ -59,7 +71,13 @@ impl<W> Ends for RealOutput<W> {
 
 impl<W: Write> Sink for RealOutput<W> {
     // A write of nothing is a fault too.
-    fn put(&mut self, piece: &[u8]) -> Result<usize, Failed> {
+    fn put(&mut self, piece: &[u8]) -> Result<usize, Failed>
+        ensures bound { IfOk result (λ n. (1 ≤ n) × (n ≤ length piece.now)) }
+        ensures bytes { WriteAppends (W.contents (writer_of self.old)) (W.contents (writer_of self.new))
+            result piece.now }
+        ensures sound { OnOk result (write_faults_of self.new ≡ write_faults_of self.old) }
+        ensures fault { OnErr result (write_faults_of self.new ≡ one_more (write_faults_of self.old)) }
+    {
         match write_uninterrupted(&mut self.writer, piece) {
             Ok(count) if count > 0 => Ok(count),
             _ => {
@@ -69,7 +87,11 @@ impl<W: Write> Sink for RealOutput<W> {
         }
     }
 
-    fn finish(&mut self) -> Result<(), Failed> {
+    fn finish(&mut self) -> Result<(), Failed>
+        ensures bytes { Keeps (W.contents (writer_of self.old)) (W.contents (writer_of self.new)) }
+        ensures sound { OnOk result (write_faults_of self.new ≡ write_faults_of self.old) }
+        ensures fault { OnErr result (write_faults_of self.new ≡ one_more (write_faults_of self.old)) }
+    {
         match self.writer.flush() {
             Ok(()) => Ok(()),
             Err(_) => {
@@ -82,7 +104,8 @@ impl<W: Write> Sink for RealOutput<W> {
 
 // Reads once, and again where a signal came between.
 fn read_uninterrupted<R: Read>(reader: &mut R, into: &mut [u8]) -> io::Result<usize>
-    ensures { IfOk result (λ count. count ≤ length into.new) }
+    ensures bound { IfOk result (λ count. count ≤ length into.new) }
+    ensures bytes { ReadConsumes (R.remaining reader.old) (R.remaining reader.new) result into.new }
 {
     for _ in 0..u64::MAX {
         match reader.read(into) {
@@ -95,7 +118,8 @@ fn read_uninterrupted<R: Read>(reader: &mut R, into: &mut [u8]) -> io::Result<us
 
 // Writes once, and again where a signal came between.
 fn write_uninterrupted<W: Write>(writer: &mut W, piece: &[u8]) -> io::Result<usize>
-    ensures { IfOk result (λ count. count ≤ length piece.now) }
+    ensures bound { IfOk result (λ count. count ≤ length piece.now) }
+    ensures bytes { WriteAppends (W.contents writer.old) (W.contents writer.new) result piece.now }
 {
     for _ in 0..u64::MAX {
         match writer.write(piece) {

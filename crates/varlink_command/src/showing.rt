@@ -2,7 +2,9 @@
 ghost use Rattle.link_port.specs.Flow.{IsAsBefore};
 ghost use Rattle.varlink_command.specs.Definitions.{Shows};
 
+use crate::faults::Fault;
 use crate::pieces::put_texts;
+use idl_print::{PrintFault, write};
 use idl_tree::Checked;
 use link_port::{Failed, Sink};
 use std::alloc::Global;
@@ -16,22 +18,13 @@ pub enum Showing {
     Text,
 }
 
-/// Why a definition was not shown.
-#[derive(Debug, Clone, Copy, PartialEq, Eq)]
-pub enum Unshown {
-    /// The output failed.
-    WriteFault,
-    /// Memory was asked for and not granted.
-    Memory,
-}
-
 /// Shows a definition.
 pub fn show<O: Sink>(
     alloc: Global,
     showing: Showing,
     tree: &Checked,
     output: &mut O,
-) -> Result<(), Unshown>
+) -> Result<(), Fault>
     ensures shows { Shows showing tree.now (O.written output.old) (O.written output.new)
         (O.write_faults output.old) (O.write_faults output.new) result }
     ensures other { IsAsBefore (O.left output.old) (O.left output.new)
@@ -43,7 +36,7 @@ pub fn show<O: Sink>(
     }
 }
 
-fn show_name<O: Sink>(tree: &Checked, output: &mut O) -> Result<(), Unshown>
+fn show_name<O: Sink>(tree: &Checked, output: &mut O) -> Result<(), Fault>
     ensures shows { Shows Showing.Name tree.now (O.written output.old) (O.written output.new)
         (O.write_faults output.old) (O.write_faults output.new) result }
     ensures other { IsAsBefore (O.left output.old) (O.left output.new)
@@ -51,21 +44,19 @@ fn show_name<O: Sink>(tree: &Checked, output: &mut O) -> Result<(), Unshown>
 {
     match put_texts(output, &["ok ", tree.tree().name.as_str(), "\n"]) {
         Ok(()) => Ok(()),
-        Err(Failed) => Err(Unshown::WriteFault),
+        Err(Failed) => Err(Fault::WriteFault),
     }
 }
 
-fn show_text<O: Sink>(alloc: Global, tree: &Checked, output: &mut O) -> Result<(), Unshown>
+fn show_text<O: Sink>(alloc: Global, tree: &Checked, output: &mut O) -> Result<(), Fault>
     ensures shows { Shows Showing.Text tree.now (O.written output.old) (O.written output.new)
         (O.write_faults output.old) (O.write_faults output.new) result }
     ensures other { IsAsBefore (O.left output.old) (O.left output.new)
         (O.read_faults output.old) (O.read_faults output.new) }
 {
-    let Ok(text) = idl_print::text(alloc, tree) else {
-        return Err(Unshown::Memory);
-    };
-    match put_texts(output, &[text.as_str()]) {
+    match write(alloc, tree, output) {
         Ok(()) => Ok(()),
-        Err(Failed) => Err(Unshown::WriteFault),
+        Err(PrintFault::Short(_)) => Err(Fault::WriteFault),
+        Err(PrintFault::Memory) => Err(Fault::Memory),
     }
 }

@@ -1,70 +1,90 @@
 use super::*;
-use link_port::{Failed, FileFault, Files, List, MemSink, Sink, Source};
-use std::alloc::Global;
+use link_port::{FileFault, Files, Sink, Source};
 use std::io;
+use std::io::{ErrorKind, Read, Write};
+use std::fs;
 use std::test::Fail;
 
-fn sink(alloc: Global, room: u64) -> Result<MemSink, Fail> {
-    Ok(MemSink::new(alloc, room, List::new(alloc), List::new(alloc))?)
+/// A reader or a writer whose first calls a signal comes between, and which takes two bytes at a time.
+#[derive(Drop)]
+struct Signalled<T> {
+    inner: T,
+    signals: u8,
 }
 
-#[test]
-fn each_fault_has_its_line(rt: HostRuntime) -> Result<(), Fail> {
-    let lines = [
-        (Fault::BadWords, "varlink: bad words\n"),
-        (Fault::Cut { length: 12 }, "varlink: cut after 12 bytes\n"),
-        (
-            Fault::NotCall { index: 0 },
-            "varlink: message 0 is no call\n",
-        ),
-        (
-            Fault::TooLong { index: 3 },
-            "varlink: message 3 is too long\n",
-        ),
-        (Fault::ReadFault, "varlink: read fault\n"),
-        (Fault::WriteFault, "varlink: write fault\n"),
-        (Fault::Long, "varlink: too many bytes\n"),
-        (Fault::Memory, "varlink: out of memory\n"),
-    ];
-    for (fault, line) in lines {
-        let mut faults = sink(rt.alloc(), 64)?;
-        assert_eq!(rt; write_fault_line(&mut faults, fault), Ok(()));
-        assert_eq!(rt; faults.bytes(), line.as_bytes());
+impl<T> Signalled<T> {
+    fn come(&mut self) -> io::Result<()> {
+        if self.signals == 0 {
+            return Ok(());
+        }
+        self.signals -= 1;
+        Err(io::Error::from(ErrorKind::Interrupted))
     }
-    let mut full = sink(rt.alloc(), 20)?;
-    assert_eq!(rt;
-        write_fault_line(&mut full, Fault::Cut { length: 7 }),
-        Err(Failed)
-    );
-    assert_eq!(rt; full.bytes(), b"varlink: cut after 7".as_slice());
-    Ok(())
+}
+
+impl<R: Read> Read for Signalled<R> {
+    fn read(&mut self, buf: &mut [u8]) -> io::Result<usize> {
+        self.come()?;
+        self.inner.read(buf)
+    }
+}
+
+impl<W: Write> Write for Signalled<W> {
+    fn write(&mut self, buf: &[u8]) -> io::Result<usize> {
+        self.come()?;
+        self.inner.write(&buf[..buf.len().min(2)])
+    }
+
+    fn flush(&mut self) -> io::Result<()> {
+        self.inner.flush()
+    }
 }
 
 #[test]
-fn the_console_is_read_and_written(rt: HostRuntime) -> Result<(), Fail> {
-    let mut input = RealInput::new(b"abc".as_slice());
+fn the_input_gives_what_the_reader_gives(rt: HostRuntime) {
+    let mut input = RealInput::new(Signalled {
+        inner: b"abc".as_slice(),
+        signals: 2,
+    });
     let mut into = [0; 2];
     assert_eq!(rt; input.take(&mut into), Ok(2));
     assert_eq!(rt; into, *b"ab");
     assert_eq!(rt; input.take(&mut into), Ok(1));
+    assert_eq!(rt; into, *b"cb");
     assert_eq!(rt; input.take(&mut into), Ok(0));
-    let mut output = RealOutput::new(Vec::new(rt.alloc()));
-    assert_eq!(rt; output.put(b"abc"), Ok(3));
-    assert_eq!(rt; output.finish(), Ok(()));
-    let mut nowhere = RealOutput::new(io::empty());
-    assert_eq!(rt; nowhere.finish(), Ok(()));
-    Ok(())
 }
 
 #[test]
-fn the_real_files_are_read(rt: HostRuntime) {
-    let mut files = RealFiles::new(rt);
+fn the_output_puts_what_the_writer_takes(rt: HostRuntime) {
+    let mut room = [0; 4];
+    let mut output = RealOutput::new(Signalled {
+        inner: room.as_mut_slice(),
+        signals: 3,
+    });
+    assert_eq!(rt; output.put(b"abc"), Ok(2));
+    assert_eq!(rt; output.put(b"c"), Ok(1));
+    assert_eq!(rt; output.finish(), Ok(()));
+    assert_eq!(rt; room, *b"abc\0");
+}
+
+#[test]
+fn the_files_give_what_the_files_hold(rt: HostRuntime) -> Result<(), Fail> {
+    fs::write(&rt, "held", b"abc")?;
     let alloc = rt.alloc();
-    let read = |files: &mut RealFiles<HostRuntime>, path: &str| match files.read(alloc, path, 0) {
-        Ok(bytes) => Ok(bytes.len()),
-        Err(fault) => Err(fault),
+    let mut files = RealFiles::new(rt);
+    let is_held = match files.read(alloc, "held", 3) {
+        Ok(bytes) => bytes.as_slice() == b"abc".as_slice(),
+        Err(_) => false,
     };
-    assert_eq!(rt; read(&mut files, "/dev/null"), Ok(0));
-    assert_eq!(rt; read(&mut files, "/dev/zero"), Err(FileFault::TooLong));
-    assert_eq!(rt; read(&mut files, "/no such file"), Err(FileFault::Failed));
+    assert!(rt; is_held);
+    for (path, most, wanted) in [
+        ("held", 2, FileFault::TooLong),
+        ("/dev/zero", 5, FileFault::TooLong),
+        ("missing", 5, FileFault::Failed),
+        (".", 5, FileFault::Failed),
+    ] {
+        let fault = files.read(alloc, path, most).err();
+        assert_eq!(rt; fault, Some(wanted), "at {path}");
+    }
+    Ok(())
 }

@@ -1,18 +1,14 @@
-use Rattle.std.proofs.Common.{Option, subst, ap, ◌∙◌}
-use Rattle.varlink_command.specs.declared.fault_lines.Fault.{Fault}
-use Rattle.varlink_command.specs.Offline.{Tells}
-use Rattle.varlink_command.specs.Statuses.{status}
+-- The session's stop is what the command comes to.
 use Rattle.varlink_command.proofs.SessionLemmas.{SessionServed-of}
 use Rattle.varlink_command.proofs.commands.session.Goals as goal
 
-pub returns-clause-runs : goal.returns-clause-runs
-returns-clause-runs g c = record {
-  why = c.serve_alone-stop.result;
-  served = SessionServed-of _ _ _ _ _ _ c.serve_alone-stop.result c.serve_alone-stop.ensures.served;
-  reads = c.serve_alone-stop.ensures.reads;
-  writes = c.serve_alone-stop.ensures.writes;
-  line = subst (λ (fault : Option Fault). Tells fault (g.E.Ends.written c.args.world.now.faults) (g.E.Ends.written c.conclude.new.faults)
-      (g.E.Ends.write_faults c.args.world.now.faults) (g.E.Ends.write_faults c.conclude.new.faults))
-      c.fault_of.ensures c.conclude.ensures.line;
-  status = c.conclude.ensures.status ∙ ap status c.fault_of.ensures;
-}
+pub returns-clause-serves : goal.returns-clause-serves
+returns-clause-serves g c =
+    let stop = c.serve_alone-stop.result in
+    record {
+      why = stop;
+      served = SessionServed-of _ _ _ _ _ _ stop c.serve_alone-stop.ensures.served;
+      reads = c.serve_alone-stop.ensures.reads;
+      writes = c.serve_alone-stop.ensures.writes;
+      comes = c.outcome_of.ensures;
+    }

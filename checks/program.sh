@@ -1,0 +1,129 @@
+#!/usr/bin/env bash
+# Runs the built program on good and bad inputs, as its users do, and compares what it writes to standard output, what it
+# writes to standard error, and its status. The inputs are files of checks/program/.
+#
+# Usage: checks/program.sh [PROGRAM]     (without PROGRAM: ./varlink at the top, which builds what is missing)
+set -u
+top=$(cd "$(dirname "$0")/.." && pwd)
+program=${1:-$top/varlink}
+cd "$top/checks/program" || exit 1
+work=$(mktemp -d)
+trap 'rm -rf "$work"' EXIT
+passed=0
+failed=0
+
+# The case of this name, its status, the file with the wanted output (- for none) and the wanted text behind `varlink: ` on
+# standard error (- for none), against the status and the files of a run.
+compare() {
+    local name=$1 status=$2 output=$3 line=$4 got=$5
+    [ "$output" = - ] && output=/dev/null
+    if [ "$line" = - ]; then : >"$work/line"; else printf 'varlink: %s\n' "$line" >"$work/line"; fi
+    if [ "$got" = "$status" ] && cmp -s "$output" "$work/out" && cmp -s "$work/line" "$work/err"; then
+        passed=$((passed + 1))
+        return
+    fi
+    failed=$((failed + 1))
+    echo "checks/program.sh: $name: status $got, wanted $status; output and standard error were:"
+    head -c 300 "$work/out" | tr '\0' '~'
+    head -c 300 "$work/err"
+    echo "and wanted:"
+    head -c 300 "$output" | tr '\0' '~'
+    cat "$work/line"
+}
+
+# A run with these words, its input being that of this call.
+expect() {
+    local name=$1 status=$2 output=$3 line=$4
+    shift 4
+    timeout 60 "$program" "$@" >"$work/out" 2>"$work/err"
+    compare "$name" "$status" "$output" "$line" $?
+}
+
+# The same where nothing can be written to standard output: it is a full device, a closed pipe, or no open file.
+expect_unwritten() {
+    local name=$1 line=$2
+    shift 2
+    : >"$work/out"
+    timeout 60 "$program" "$@" <"$work/in" >/dev/full 2>"$work/err"
+    compare "$name, a full device" 6 - "$line" $?
+    (
+        trap '' PIPE
+        timeout 60 "$program" "$@" <"$work/in" 2>"$work/err"
+        echo $? >"$work/status"
+    ) | : # a reader that is gone
+    compare "$name, a closed pipe" 6 - "$line" "$(cat "$work/status")"
+    timeout 60 "$program" "$@" <"$work/in" >&- 2>"$work/err"
+    compare "$name, a closed output" 6 - "$line" $?
+}
+
+# ---- words
+
+for words in "" "Session" "session session x" "--help" "help" "check" "format" "check a b" "check --a" "lint good.varlink"; do
+    # shellcheck disable=SC2086
+    expect "the words '$words'" 1 - 'bad words' $words </dev/null
+done
+expect 'a word that is no text' 1 - 'bad words' check $'\xff' </dev/null
+
+# ---- session
+
+expect 'no calls' 0 - - session </dev/null
+expect 'one call' 0 info.replies - session <info.calls
+expect 'calls of every kind' 0 calls.replies - session <good.calls
+expect 'a message that is no call' 3 info.replies 'message 1 is no call' session <bad.calls
+expect 'a call that is cut' 3 info.replies 'cut after 40 bytes' session <cut.calls
+head -c 20 info.calls >"$work/front"
+tail -c +21 info.calls >"$work/back"
+{ cat "$work/front"; sleep 0.3; cat "$work/back"; } | expect 'a call in two pieces' 0 info.replies - session
+expect 'an input that cannot be read' 5 - 'read fault' session <.
+cp info.calls "$work/in"
+expect_unwritten session 'write fault' session
+timeout 60 "$program" session <bad.calls >"$work/out" 2>/dev/full
+got=$?
+: >"$work/err"
+compare 'a line that cannot be written' 3 info.replies - "$got"
+
+# a client that waits for each reply before its next call
+coproc SERVICE { exec timeout 60 "$program" session 2>"$work/err"; }
+: >"$work/out"
+for _ in 1 2 3; do
+    cat info.calls >&"${SERVICE[1]}"
+    IFS= read -r -d '' -t 20 reply <&"${SERVICE[0]}" || break
+    printf '%s\0' "$reply" >>"$work/out"
+done
+service=$SERVICE_PID
+exec {SERVICE[1]}>&-
+wait "$service"
+got=$?
+cat info.replies info.replies info.replies >"$work/thrice"
+compare 'a client that waits for each reply' 0 "$work/thrice" - "$got"
+
+# ---- check and format
+
+echo 'ok org.example.count' >"$work/ok"
+echo 'ok a.b' >"$work/ok-short"
+expect 'a good definition' 0 "$work/ok" - check good.varlink </dev/null
+expect 'a good definition' 0 good.canonical - format good.varlink </dev/null
+expect 'a canonical text' 0 good.canonical - format good.canonical </dev/null
+while IFS='|' read -r file line; do
+    for word in check format; do
+        expect "$word on $file" 2 - "$line" "$word" "$file" </dev/null
+    done
+done <refusals
+for word in check format; do
+    expect "$word on a folder" 5 - 'cannot read .' "$word" . </dev/null
+    expect "$word on a missing file" 5 - 'cannot read missing.varlink' "$word" missing.varlink </dev/null
+done
+printf 'interface a.b\n#' >"$work/longest"
+head -c $((1048576 - 15)) /dev/zero | tr '\0' x >>"$work/longest"
+{ cat "$work/longest"; printf x; } >"$work/longer"
+expect 'a file of 1,048,576 bytes' 0 "$work/ok-short" - check "$work/longest" </dev/null
+expect 'a file of 1,048,577 bytes' 2 - "$work/longer is too long" check "$work/longer" </dev/null
+{ printf 'interface a.b\n\n'; tail -c +15 "$work/longest"; echo; } >"$work/longest-canonical"
+expect 'a file of 1,048,576 bytes' 0 "$work/longest-canonical" - format "$work/longest" </dev/null
+expect 'a file of 1,048,577 bytes' 2 - "$work/longer is too long" format "$work/longer" </dev/null
+: >"$work/in"
+expect_unwritten check 'write fault' check good.varlink
+expect_unwritten format 'write fault' format good.varlink
+
+echo "$passed passed, $failed failed"
+[ "$failed" = 0 ]

@@ -1,0 +1,39 @@
+-- What a command did does not change by the telling of its fault.
+use Rattle.std.proofs.Common.{◌≡◌, ℕ, List, Option, Some, None, Result, Ok, Err}
+use Rattle.std.specs.Prelude.{⊤}
+use Rattle.idl_tree.specs.declared.trees.Interface.{Interface}
+use Rattle.varlink_command.specs.declared.faults.Fault.{Fault}
+use Rattle.varlink_command.specs.declared.showing.Showing.{Showing}
+use Rattle.varlink_command.specs.declared.words.Command.{Command}
+use Rattle.varlink_command.specs.declared.words.Command.TheVariants.{Session, Check, Format}
+use Rattle.varlink_command.specs.Definitions.{ShowsDefinition, ShowsRead}
+use Rattle.varlink_command.specs.Ends.{Ends, Object}
+use Rattle.varlink_command.specs.Offline.{Ran}
+use Rattle.varlink_command.specs.Sessions.{ServesSession}
+
+-- the same ends with another sink of faults
+abbrev pub told : Ends → Object → Ends
+told ends faults = record ends { faults = faults }
+
+shows-read : (showing : Showing) (read : Result Interface Fault) (before after : Ends) (faults : Object) (outcome : Result ⊤ Fault) →
+    ShowsRead showing read before after outcome → ShowsRead showing read before (told after faults) outcome
+shows-read showing (Ok tree) before after faults outcome shows = shows
+shows-read showing (Err why) before after faults outcome shows = shows
+
+shows-told : (showing : Showing) (path : List ℕ) (before after : Ends) (faults : Object) (outcome : Result ⊤ Fault) →
+    ShowsDefinition showing path before after outcome → ShowsDefinition showing path before (told after faults) outcome
+shows-told showing path before after faults outcome shown = record {
+  read = shown.read;
+  reads = shown.reads;
+  counted = shown.counted;
+  asked = shown.asked;
+  shows = shows-read showing shown.read before after faults outcome shown.shows;
+}
+
+pub Ran-told : (command : Option Command) (path : List ℕ) (before after : Ends) (faults : Object) (outcome : Result ⊤ Fault) →
+    Ran command path before after outcome → Ran command path before (told after faults) outcome
+Ran-told None path before after faults outcome ran = ran
+Ran-told (Some Session) path before after faults outcome ran =
+    record { why = ran.why; served = ran.served; reads = ran.reads; writes = ran.writes; comes = ran.comes }
+Ran-told (Some Check) path before after faults outcome ran = shows-told _ path before after faults outcome ran
+Ran-told (Some Format) path before after faults outcome ran = shows-told _ path before after faults outcome ran

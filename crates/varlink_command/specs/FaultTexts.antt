@@ -1,0 +1,54 @@
+-- The lines that tell faults. Numbers are decimal.
+use Rattle.std.specs.Prelude.{ℕ, List, ◌++◌, codes, decimal}
+use Rattle.idl_token.specs.declared.tokens.TokenFault.TheVariants as token
+use Rattle.idl_tree.specs.declared.faults.NameFault.{NameFault}
+use Rattle.idl_tree.specs.declared.faults.NameFault.TheVariants as name
+use Rattle.idl_grammar.specs.declared.faults.IdlFault.{IdlFault}
+use Rattle.idl_grammar.specs.declared.faults.IdlFault.TheVariants as idl
+use Rattle.varlink_command.specs.declared.faults.Fault.{Fault}
+use Rattle.varlink_command.specs.declared.faults.Fault.TheVariants as fault
+use Rattle.varlink_command.specs.declared.fault_lines.Wording.{Wording}
+
+abbrev pub out_of_memory : List ℕ
+out_of_memory = codes "out of memory"
+
+-- the text of a fault of names
+abbrev pub name_text : NameFault → List ℕ
+name_text (name.TwiceType word) = codes "type " ++ word ++ codes " stands twice"
+name_text (name.TwiceMethod word) = codes "method " ++ word ++ codes " stands twice"
+name_text (name.TwiceError word) = codes "error " ++ word ++ codes " stands twice"
+name_text (name.TwiceField word) = codes "name " ++ word ++ codes " stands twice"
+name_text (name.UnknownType word) = codes "type " ++ word ++ codes " is not defined"
+name_text name.Memory = out_of_memory
+
+-- the text of a refused definition
+abbrev pub refusal_text : IdlFault → List ℕ
+refusal_text (idl.Token (token.NotUtf8 at)) = codes "not UTF-8 at " ++ decimal at
+refusal_text (idl.Token (token.BadByte at)) = codes "bad byte at " ++ decimal at
+refusal_text (idl.Token token.Memory) = out_of_memory
+refusal_text (idl.Syntax at) = codes "syntax at " ++ decimal at
+refusal_text (idl.TooDeep at) = codes "too deep at " ++ decimal at
+refusal_text (idl.Name fault) = name_text fault
+refusal_text idl.Memory = out_of_memory
+
+-- the text of a fault of a command on this path
+abbrev pub fault_text : List ℕ → Fault → List ℕ
+fault_text path fault.BadWords = codes "bad words"
+fault_text path fault.Unreadable = codes "cannot read " ++ path
+fault_text path fault.PastLimit = path ++ codes " is too long"
+fault_text path (fault.NoDefinition why) = refusal_text why
+fault_text path (fault.Cut bytes) = codes "cut after " ++ decimal bytes ++ codes " bytes"
+fault_text path (fault.NotCall index) = codes "message " ++ decimal index ++ codes " is no call"
+fault_text path (fault.TooLong index) = codes "message " ++ decimal index ++ codes " is too long"
+fault_text path fault.ReadFault = codes "read fault"
+fault_text path fault.WriteFault = codes "write fault"
+fault_text path fault.Long = codes "too many bytes"
+fault_text path fault.Memory = out_of_memory
+
+-- the line: the program's name, the text, and a line feed
+abbrev pub fault_line : List ℕ → Fault → List ℕ
+fault_line path fault = codes "varlink: " ++ fault_text path fault ++ codes "\n"
+
+-- a text in three parts
+abbrev pub wording : Wording → List ℕ
+wording text = text.before.now ++ text.middle.now ++ text.behind.now

@@ -1,0 +1,76 @@
+// Why a command did not do what it was asked for, and the status that tells it.
+ghost use Rattle.std.specs.Prelude.{◌≡◌};
+ghost use Rattle.varlink_command.specs.Faults.{status_of, number_of};
+
+use crate::worlds::Status;
+use idl_grammar::IdlFault;
+use idl_token::TokenFault;
+
+/// Why a command did not do what it was asked for.
+#[derive(Drop)]
+pub enum Fault {
+    /// The words are those of no command.
+    BadWords,
+    /// The file at the path cannot be read.
+    Unreadable,
+    /// The file at the path holds more bytes than it may.
+    PastLimit,
+    /// The file at the path holds no definition. Want of memory is not told by it.
+    NoDefinition(IdlFault),
+    /// The input ended with so many bytes after the last whole message.
+    Cut {
+        /// The number of bytes.
+        bytes: u64,
+    },
+    /// A message is no call.
+    NotCall {
+        /// The number of messages before it.
+        index: u64,
+    },
+    /// A message is too long.
+    TooLong {
+        /// The number of messages before it.
+        index: u64,
+    },
+    /// The input failed.
+    ReadFault,
+    /// The output failed.
+    WriteFault,
+    /// The input has more bytes than a session takes.
+    Long,
+    /// Memory was asked for and not granted.
+    Memory,
+}
+
+impl Fault {
+    /// The status that tells the fault.
+    pub fn status(&self) -> Status
+        ensures { result.0 ≡ status_of self.now }
+    {
+        Status(match self {
+            Fault::BadWords => 1,
+            Fault::PastLimit | Fault::NoDefinition(_) => 2,
+            Fault::Cut { .. } | Fault::NotCall { .. } | Fault::TooLong { .. } => 3,
+            Fault::Unreadable | Fault::ReadFault => 5,
+            Fault::WriteFault => 6,
+            Fault::Memory => 7,
+            Fault::Long => 8,
+        })
+    }
+
+    // The number in the fault's text; 0 where there is none.
+    pub fn number(&self) -> u64
+        ensures { result ≡ number_of self.now }
+    {
+        match self {
+            Fault::NoDefinition(
+                IdlFault::Token(TokenFault::NotUtf8 { at } | TokenFault::BadByte { at })
+                | IdlFault::Syntax { at }
+                | IdlFault::TooDeep { at },
+            ) => *at,
+            Fault::Cut { bytes } => *bytes,
+            Fault::NotCall { index } | Fault::TooLong { index } => *index,
+            _ => 0,
+        }
+    }
+}
