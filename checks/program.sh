@@ -125,5 +125,5 @@ expect 'a file of 1,048,577 bytes' 2 - "$work/longer is too long" format "$work/
 expect_unwritten check 'write fault' check good.varlink
 expect_unwritten format 'write fault' format good.varlink
 
-echo "$passed passed, $failed failed"
+echo "program: $passed passed, $failed failed"
 [ "$failed" = 0 ]

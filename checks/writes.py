@@ -50,7 +50,7 @@ def main():
         if not right:
             failed += 1
             print(f"checks/writes.py: {name}: {len(found)} writes and {len(texts)} replies, wanted {count} and {replies}")
-    print(f"{len(wanted) - failed} passed, {failed} failed")
+    print(f"writes: {len(wanted) - failed} passed, {failed} failed")
     sys.exit(failed > 0)
 
 

@@ -1,5 +1,5 @@
 -- What the ends of the real console are made over.
-use Rattle.std.specs.Prelude.{ℕ}
+use Rattle.std.specs.Prelude.{ℕ, Bool}
 use Rattle.varlink_command.specs.declared.real_streams.RealInput.{RealInput}
 use Rattle.varlink_command.specs.declared.real_streams.RealOutput.{RealOutput}
 
@@ -16,3 +16,7 @@ writer_of output = output.writer
 
 abbrev pub write_faults_of : {W : Type 0} → RealOutput W → ℕ
 write_faults_of output = output.faults
+
+-- whether a flush succeeded that told the writer's other end that nothing more comes
+abbrev pub is_finished : {W : Type 0} → RealOutput W → Bool
+is_finished output = output.finished

@@ -1,8 +1,8 @@
 // The top call of the commands that need no network.
-ghost use Rattle.std.specs.Prelude.{◌≡◌, ◌≢◌, [], Some, None, Err};
+ghost use Rattle.std.specs.Prelude.{◌≡◌, ◌≢◌, [], false, Some, None, Err};
 ghost use Rattle.link_port.specs.Flow.{IsAsBefore};
 ghost use Rattle.varlink_command.specs.Definitions.{ShowsDefinition};
-ghost use Rattle.varlink_command.specs.Ends.{KeepsOthers};
+ghost use Rattle.varlink_command.specs.Ends.{AreOpen, KeepsOthers};
 ghost use Rattle.varlink_command.specs.Offline.{Concludes, Ran, Runs};
 ghost use Rattle.varlink_command.specs.Sessions.{ServesSession, outcome_of as stop_outcome};
 ghost use Rattle.varlink_command.specs.Words.{command, path_of as path_word};
@@ -30,12 +30,14 @@ pub fn offline<S: Source, O: Sink, E: Sink, F: Files>(
     words: &[Text],
     world: &mut Desktop<S, O, E, F>,
 ) -> Status
+    requires { AreOpen (⟦<Desktop<S, O, E, F> as World>⟧.ends world.old) }
     // each command, in a line of its own: `Ran`
     ensures runs { Runs words.now (⟦<Desktop<S, O, E, F> as World>⟧.ends world.old)
         (⟦<Desktop<S, O, E, F> as World>⟧.ends world.new) result.0 }
     // what files hold, and the sides that no command uses, stay as they were
     ensures kept { KeepsOthers (⟦<Desktop<S, O, E, F> as World>⟧.ends world.old)
         (⟦<Desktop<S, O, E, F> as World>⟧.ends world.new) }
+    ensures open { AreOpen (⟦<Desktop<S, O, E, F> as World>⟧.ends world.new) }
     // what a command does not use is not touched
     ensures input { command words.now ≢ Some Command.Session → world.new.input ≡ world.old.input }
     ensures files { command words.now ≡ Some Command.Session → world.new.files ≡ world.old.files }
@@ -52,11 +54,13 @@ fn run<S: Source, O: Sink, E: Sink, F: Files>(
     words: &[Text],
     world: &mut Desktop<S, O, E, F>,
 ) -> Result<(), Fault>
+    requires { AreOpen (⟦<Desktop<S, O, E, F> as World>⟧.ends world.old) }
     ensures ran { Ran (command words.now) (path_word words.now)
         (⟦<Desktop<S, O, E, F> as World>⟧.ends world.old)
         (⟦<Desktop<S, O, E, F> as World>⟧.ends world.new) result }
     ensures kept { KeepsOthers (⟦<Desktop<S, O, E, F> as World>⟧.ends world.old)
         (⟦<Desktop<S, O, E, F> as World>⟧.ends world.new) }
+    ensures open { AreOpen (⟦<Desktop<S, O, E, F> as World>⟧.ends world.new) }
     ensures faults { world.new.faults ≡ world.old.faults }
     ensures input { command words.now ≢ Some Command.Session → world.new.input ≡ world.old.input }
     ensures files { command words.now ≡ Some Command.Session → world.new.files ≡ world.old.files }
@@ -75,10 +79,12 @@ fn session<S: Source, O: Sink, E: Sink, F: Files>(
     alloc: Global,
     world: &mut Desktop<S, O, E, F>,
 ) -> Result<(), Fault>
+    requires { AreOpen (⟦<Desktop<S, O, E, F> as World>⟧.ends world.old) }
     ensures serves { ServesSession (⟦<Desktop<S, O, E, F> as World>⟧.ends world.old)
         (⟦<Desktop<S, O, E, F> as World>⟧.ends world.new) result }
     ensures kept { KeepsOthers (⟦<Desktop<S, O, E, F> as World>⟧.ends world.old)
         (⟦<Desktop<S, O, E, F> as World>⟧.ends world.new) }
+    ensures open { AreOpen (⟦<Desktop<S, O, E, F> as World>⟧.ends world.new) }
     ensures faults { world.new.faults ≡ world.old.faults }
     ensures files { world.new.files ≡ world.old.files }
 {
@@ -98,11 +104,13 @@ fn definition<S: Source, O: Sink, E: Sink, F: Files>(
     path: &str,
     world: &mut Desktop<S, O, E, F>,
 ) -> Result<(), Fault>
+    requires { AreOpen (⟦<Desktop<S, O, E, F> as World>⟧.ends world.old) }
     ensures shows { ShowsDefinition showing path.now
         (⟦<Desktop<S, O, E, F> as World>⟧.ends world.old)
         (⟦<Desktop<S, O, E, F> as World>⟧.ends world.new) result }
     ensures kept { KeepsOthers (⟦<Desktop<S, O, E, F> as World>⟧.ends world.old)
         (⟦<Desktop<S, O, E, F> as World>⟧.ends world.new) }
+    ensures open { AreOpen (⟦<Desktop<S, O, E, F> as World>⟧.ends world.new) }
     ensures faults { world.new.faults ≡ world.old.faults }
     ensures input { world.new.input ≡ world.old.input }
 {
@@ -131,11 +139,14 @@ fn outcome_of(stop: Stop) -> Result<(), Fault>
 /// Tells a fault that came before a command could be known, and gives its status. Nothing but the sink
 /// of faults changes.
 pub fn refuse<S, O, E: Sink, F>(world: &mut Desktop<S, O, E, F>, fault: Fault) -> Status
+    requires { E.finished world.old.faults ≡ false }
     ensures told { Concludes [] (Err fault)
         (record { left = E.left world.old.faults; read_faults = E.read_faults world.old.faults;
-            written = E.written world.old.faults; write_faults = E.write_faults world.old.faults })
+            written = E.written world.old.faults; write_faults = E.write_faults world.old.faults;
+            finished = E.finished world.old.faults })
         (record { left = E.left world.new.faults; read_faults = E.read_faults world.new.faults;
-            written = E.written world.new.faults; write_faults = E.write_faults world.new.faults })
+            written = E.written world.new.faults; write_faults = E.write_faults world.new.faults;
+            finished = E.finished world.new.faults })
         result.0 }
     ensures rest { world.new ≡ record world.old { faults = world.new.faults } }
 {
@@ -145,14 +156,18 @@ pub fn refuse<S, O, E: Sink, F>(world: &mut Desktop<S, O, E, F>, fault: Fault) -
 // Tells the fault that a command on this path came to, if it is one, and gives the status. That the line
 // cannot be written changes nothing.
 fn conclude<E: Sink>(faults: &mut E, path: &str, outcome: Result<(), Fault>) -> Status
+    requires { E.finished faults.old ≡ false }
     ensures told { Concludes path.now outcome
         (record { left = E.left faults.old; read_faults = E.read_faults faults.old;
-            written = E.written faults.old; write_faults = E.write_faults faults.old })
+            written = E.written faults.old; write_faults = E.write_faults faults.old;
+            finished = E.finished faults.old })
         (record { left = E.left faults.new; read_faults = E.read_faults faults.new;
-            written = E.written faults.new; write_faults = E.write_faults faults.new })
+            written = E.written faults.new; write_faults = E.write_faults faults.new;
+            finished = E.finished faults.new })
         result.0 }
     ensures other { IsAsBefore (E.left faults.old) (E.left faults.new)
         (E.read_faults faults.old) (E.read_faults faults.new) }
+    ensures unfinished { E.finished faults.new ≡ false }
 {
     match outcome {
         Ok(()) => Status(0),

@@ -1,5 +1,5 @@
 // The lines that tell faults.
-ghost use Rattle.std.specs.Prelude.{◌≡◌, ◌++◌, decimal};
+ghost use Rattle.std.specs.Prelude.{◌≡◌, ◌++◌, false, decimal};
 ghost use Rattle.link_port.specs.Flow.{IsAsBefore};
 ghost use Rattle.varlink_command.specs.Faults.{number_of, refusal_number};
 ghost use Rattle.varlink_command.specs.FaultTexts.{fault_line, fault_text, refusal_text, name_text, wording};
@@ -29,11 +29,13 @@ pub struct Wording<'a> {
 ///
 /// Where the sink fails, a front of the line was written.
 pub fn write_fault_line<E: Sink>(faults: &mut E, path: &str, fault: &Fault) -> Result<(), Failed>
+    requires { E.finished faults.old ≡ false }
     ensures all { PutsAll (E.written faults.old) (E.written faults.new)
         (E.write_faults faults.old) (E.write_faults faults.new) result
         (fault_line path.now fault.now) }
     ensures other { IsAsBefore (E.left faults.old) (E.left faults.new)
         (E.read_faults faults.old) (E.read_faults faults.new) }
+    ensures unfinished { E.finished faults.new ≡ false }
 {
     let mut digits = Buffer::new();
     let text = wording_of(fault, path, digits.format(fault.number()));

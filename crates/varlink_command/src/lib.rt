@@ -19,8 +19,3 @@ pub use faults::Fault;
 pub use real_files::RealFiles;
 pub use real_streams::{RealInput, RealOutput};
 pub use worlds::{Desktop, Status, World};
-
-#[cfg(test)]
-mod rows;
-#[cfg(test)]
-mod tests;

@@ -1,9 +1,9 @@
 // The ends of the real console: what they give and take is what the system's objects give and take, as
 // far as these tell it. They count each error of the system.
-ghost use Rattle.std.specs.Prelude.{◌≡◌, ◌≤◌, ◌<◌, IfOk, OnOk, OnErr, length};
+ghost use Rattle.std.specs.Prelude.{◌≡◌, ◌≤◌, false, true, IfOk, OnOk, OnErr, length};
 ghost use Rattle.std.specs.Io.KnownBytes.{Keeps, ReadConsumes, WriteAppends};
 ghost use Rattle.link_port.specs.Faults.{one_more};
-ghost use Rattle.varlink_command.specs.RealEnds.{reader_of, writer_of, read_faults_of, write_faults_of};
+ghost use Rattle.varlink_command.specs.RealEnds.{reader_of, writer_of, read_faults_of, write_faults_of, is_finished};
 
 use link_port::{Ends, Failed, Sink, Source};
 use std::io;
@@ -53,6 +53,7 @@ impl<R: Read> Source for RealInput<R> {
 pub struct RealOutput<W> {
     writer: W,
     faults: u64,
+    finished: bool,
 }
 
 impl<W> RealOutput<W> {
@@ -60,13 +61,19 @@ impl<W> RealOutput<W> {
     pub fn new(writer: W) -> RealOutput<W>
         ensures sound { ⟦<RealOutput<W> as Ends>⟧.write_faults result ≡ 0 }
         ensures over { writer_of result ≡ writer }
+        ensures unfinished { ⟦<RealOutput<W> as Ends>⟧.finished result ≡ false }
     {
-        RealOutput { writer, faults: 0 }
+        RealOutput {
+            writer,
+            faults: 0,
+            finished: false,
+        }
     }
 }
 
 impl<W> Ends for RealOutput<W> {
     ghost write_faults = { λ output. output.faults };
+    ghost finished = { λ output. output.finished };
 }
 
 impl<W: Write> Sink for RealOutput<W> {
@@ -77,6 +84,7 @@ impl<W: Write> Sink for RealOutput<W> {
             result piece.now }
         ensures sound { OnOk result (write_faults_of self.new ≡ write_faults_of self.old) }
         ensures fault { OnErr result (write_faults_of self.new ≡ one_more (write_faults_of self.old)) }
+        ensures still { is_finished self.new ≡ is_finished self.old }
     {
         match write_uninterrupted(&mut self.writer, piece) {
             Ok(count) if count > 0 => Ok(count),
@@ -91,9 +99,14 @@ impl<W: Write> Sink for RealOutput<W> {
         ensures bytes { Keeps (W.contents (writer_of self.old)) (W.contents (writer_of self.new)) }
         ensures sound { OnOk result (write_faults_of self.new ≡ write_faults_of self.old) }
         ensures fault { OnErr result (write_faults_of self.new ≡ one_more (write_faults_of self.old)) }
+        ensures finished { OnOk result (is_finished self.new ≡ true) }
+        ensures still { OnErr result (is_finished self.new ≡ is_finished self.old) }
     {
         match self.writer.flush() {
-            Ok(()) => Ok(()),
+            Ok(()) => {
+                self.finished = true;
+                Ok(())
+            }
             Err(_) => {
                 self.faults = self.faults.saturating_add(1);
                 Err(Failed)
@@ -109,7 +122,7 @@ fn read_uninterrupted<R: Read>(reader: &mut R, into: &mut [u8]) -> io::Result<us
 {
     for _ in 0..u64::MAX {
         match reader.read(into) {
-            Err(error) if error.kind() == ErrorKind::Interrupted => {}
+            Err(signal) if signal.kind() == ErrorKind::Interrupted => {}
             outcome => return outcome,
         }
     }

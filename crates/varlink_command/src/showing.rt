@@ -1,4 +1,5 @@
 // What is shown of a definition.
+ghost use Rattle.std.specs.Prelude.{◌≡◌, false};
 ghost use Rattle.link_port.specs.Flow.{IsAsBefore};
 ghost use Rattle.varlink_command.specs.Definitions.{Shows};
 
@@ -25,10 +26,12 @@ pub fn show<O: Sink>(
     tree: &Checked,
     output: &mut O,
 ) -> Result<(), Fault>
+    requires { O.finished output.old ≡ false }
     ensures shows { Shows showing tree.now (O.written output.old) (O.written output.new)
         (O.write_faults output.old) (O.write_faults output.new) result }
     ensures other { IsAsBefore (O.left output.old) (O.left output.new)
         (O.read_faults output.old) (O.read_faults output.new) }
+    ensures unfinished { O.finished output.new ≡ false }
 {
     match showing {
         Showing::Name => show_name(tree, output),
@@ -37,10 +40,12 @@ pub fn show<O: Sink>(
 }
 
 fn show_name<O: Sink>(tree: &Checked, output: &mut O) -> Result<(), Fault>
+    requires { O.finished output.old ≡ false }
     ensures shows { Shows Showing.Name tree.now (O.written output.old) (O.written output.new)
         (O.write_faults output.old) (O.write_faults output.new) result }
     ensures other { IsAsBefore (O.left output.old) (O.left output.new)
         (O.read_faults output.old) (O.read_faults output.new) }
+    ensures unfinished { O.finished output.new ≡ false }
 {
     match put_texts(output, &["ok ", tree.tree().name.as_str(), "\n"]) {
         Ok(()) => Ok(()),
@@ -49,10 +54,12 @@ fn show_name<O: Sink>(tree: &Checked, output: &mut O) -> Result<(), Fault>
 }
 
 fn show_text<O: Sink>(alloc: Global, tree: &Checked, output: &mut O) -> Result<(), Fault>
+    requires { O.finished output.old ≡ false }
     ensures shows { Shows Showing.Text tree.now (O.written output.old) (O.written output.new)
         (O.write_faults output.old) (O.write_faults output.new) result }
     ensures other { IsAsBefore (O.left output.old) (O.left output.new)
         (O.read_faults output.old) (O.read_faults output.new) }
+    ensures unfinished { O.finished output.new ≡ false }
 {
     match write(alloc, tree, output) {
         Ok(()) => Ok(()),

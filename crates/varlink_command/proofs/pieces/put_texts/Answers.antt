@@ -24,5 +24,6 @@ loop-text-preserved g c =
       whole = joined-done _ before.done _ piece _ before.whole next;
       bytes = Appends-trans _ _ _ _ _ before.bytes step.ok;
       sound = step.sound ∙ before.sound;
+      unfinished = step.unfinished;
       other = (step.other.0 ∙ before.other.0, step.other.1 ∙ before.other.1);
     }

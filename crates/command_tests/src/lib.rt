@@ -1,0 +1,13 @@
+//! The commands as they are used: rows of words, inputs and files, with what each must write.
+#![tactic(auto)]
+
+#[cfg(test)]
+mod console;
+#[cfg(test)]
+mod definitions;
+#[cfg(test)]
+mod rows;
+#[cfg(test)]
+mod sessions;
+#[cfg(test)]
+mod words;
