@@ -19,6 +19,3 @@ pub use links::{serve_alone, serve_link};
 pub use replies::{Answerer, Given, Replies};
 pub use sessions::{MOST_BYTES, Session, Turn};
 pub use stops::Stop;
-
-#[cfg(test)]
-mod tests;

@@ -8,4 +8,6 @@ mod ends;
 #[cfg(test)]
 mod frames;
 #[cfg(test)]
+mod sessions;
+#[cfg(test)]
 mod values;

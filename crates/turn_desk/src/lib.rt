@@ -15,8 +15,6 @@ mod objects;
 mod passes;
 mod plays;
 mod splits;
-#[cfg(test)]
-mod tests;
 mod turns;
 mod views;
 

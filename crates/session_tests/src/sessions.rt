@@ -1,10 +1,11 @@
+// Sessions step by step, links served to their stop, and how replies go out.
 ghost use Rattle.std.specs.Prelude.{◌≡◌, false, IfOk};
 ghost use Rattle.std.specs.List.{AllByRecursion};
 ghost use Rattle.call_form.specs.CallOf.{IsObject};
 ghost use Rattle.call_form.specs.ReplyText.{IsWritable};
 ghost use Rattle.session_core.specs.Steps.{IsIdle};
 
-use super::*;
+use session_core::{Answerer, Given, Hearer, Session, Stop, Turn, serve_alone, serve_link};
 use call_form::{Call, Outcome, Raw, Reply};
 use link_port::{Ends, Failed, List, MemSink, MemSource, Memory, Sink, Source, Value};
 use serde_json::json;

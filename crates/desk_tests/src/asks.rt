@@ -1,7 +1,8 @@
+// Passes that ask, split, join and close.
 ghost use Rattle.std.specs.Prelude.{◌≡◌, ◌+◌};
 ghost use Rattle.turn_desk.specs.Passes.{IsOf, all_asks};
 
-use crate::{AskFault, Desk, Entry, Forgotten, Kept, Object, Pass};
+use turn_desk::{AskFault, Desk, Entry, Forgotten, Kept, Object, Pass};
 use link_port::Memory;
 use std::alloc::Global;
 use std::sync::Wait;
