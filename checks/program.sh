@@ -75,6 +75,11 @@ head -c 20 info.calls >"$work/front"
 tail -c +21 info.calls >"$work/back"
 { cat "$work/front"; sleep 0.3; cat "$work/back"; } | expect 'a call in two pieces' 0 info.replies - session
 expect 'an input that cannot be read' 5 - 'read fault' session <.
+for length in 4194304 4194305; do
+    { head -c 40 info.calls; head -c $((length - 40)) /dev/zero | tr '\0' ' '; printf '\0'; } >"$work/$length"
+done
+expect 'a call of 4,194,304 bytes' 0 info.replies - session <"$work/4194304"
+expect 'a call of 4,194,305 bytes' 3 - 'message 0 is too long' session <"$work/4194305"
 cp info.calls "$work/in"
 expect_unwritten session 'write fault' session
 timeout 60 "$program" session <bad.calls >"$work/out" 2>/dev/full

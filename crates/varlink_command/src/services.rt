@@ -3,6 +3,7 @@ ghost use Rattle.std.specs.Prelude.{◌≡◌, IfOk, OnOk};
 ghost use Rattle.serde_json.specs.Data.{string, object, put as with_member};
 ghost use Rattle.serde_json.specs.View.{view, members_view};
 ghost use Rattle.call_form.specs.CallOf.{IsObject};
+ghost use Rattle.call_form.specs.ReplyText.{IsWritable};
 ghost use Rattle.varlink_command.specs.FixedService.{info, interfaces, info_reply, fixed_reply, fixed_outcome};
 
 use call_form::{Call, Outcome, Reply, StdError, standard};
@@ -29,7 +30,8 @@ impl Answerer for FixedService {
 
 /// The reply to a call.
 fn reply_to(alloc: Global, call: &Call) -> Result<Reply, Memory>
-    ensures { IfOk result (λ reply. reply ≡ fixed_reply call.now) }
+    ensures reply { IfOk result (λ reply. reply ≡ fixed_reply call.now) }
+    ensures writable { IfOk result IsWritable }
 {
     if call.method.as_str() == "org.varlink.service.GetInfo" && !call.upgrade {
         return info(alloc);
@@ -40,7 +42,8 @@ fn reply_to(alloc: Global, call: &Call) -> Result<Reply, Memory>
 
 /// Who made the service, and which interfaces it has.
 fn info(alloc: Global) -> Result<Reply, Memory>
-    ensures { IfOk result (λ reply. reply ≡ info_reply) }
+    ensures reply { IfOk result (λ reply. reply ≡ info_reply) }
+    ensures writable { IfOk result IsWritable }
 {
     Ok(Reply {
         parameters: Value::of(info_object(alloc)?),
