@@ -1,9 +1,8 @@
 // The ends of the real console, over readers and writers of the tests, and the real files.
 
 use link_port::{FileFault, Files, List, Sink, Source};
-use std::fs;
-use std::io;
 use std::io::{ErrorKind, Read, Write};
+use std::{fs, io};
 use varlink_command::{RealFiles, RealInput, RealOutput};
 
 /// A reader or a writer whose first calls a signal comes between, and which takes two bytes at a time.

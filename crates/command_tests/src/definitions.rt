@@ -50,10 +50,7 @@ const REFUSED: [(&str, &str); 12] = [
     ("interface a.b # x\ntype T (", "syntax at 26"),
     ("interface a.b error E (a, b)", "syntax at 24"),
     ("interface a.b type T (x: A)", "type A is not defined"),
-    (
-        "interface a.b type A () type A ()",
-        "type A stands twice",
-    ),
+    ("interface a.b type A () type A ()", "type A stands twice"),
     (
         "interface a.b method A() -> () method A() -> ()",
         "method A stands twice",
@@ -71,14 +68,16 @@ const REFUSED: [(&str, &str); 12] = [
 ];
 
 /// A type whose brackets are 64 deep.
-const NESTED: &str = "interface a.b type T (a: (a: (a: (a: (a: (a: (a: (a: (a: (a: (a: (a: (a: (a: (a: (a: \
+const NESTED: &str =
+    "interface a.b type T (a: (a: (a: (a: (a: (a: (a: (a: (a: (a: (a: (a: (a: (a: (a: (a: \
 (a: (a: (a: (a: (a: (a: (a: (a: (a: (a: (a: (a: (a: (a: (a: (a: (a: (a: (a: (a: (a: \
 (a: (a: (a: (a: (a: (a: (a: (a: (a: (a: (a: (a: (a: (a: (a: (a: (a: (a: (a: (a: (a: \
 (a: (a: (a: (a: (a: (a: int)))))))))))))))))))))))))))))))))))))))))))))))))))))))))\
 )))))))";
 
 /// A type whose brackets are 65 deep.
-const DEEP: &str = "interface a.b type T (a: (a: (a: (a: (a: (a: (a: (a: (a: (a: (a: (a: (a: (a: (a: (a: \
+const DEEP: &str =
+    "interface a.b type T (a: (a: (a: (a: (a: (a: (a: (a: (a: (a: (a: (a: (a: (a: (a: (a: \
 (a: (a: (a: (a: (a: (a: (a: (a: (a: (a: (a: (a: (a: (a: (a: (a: (a: (a: (a: (a: (a: \
 (a: (a: (a: (a: (a: (a: (a: (a: (a: (a: (a: (a: (a: (a: (a: (a: (a: (a: (a: (a: (a: \
 (a: (a: (a: (a: (a: (a: (a: int)))))))))))))))))))))))))))))))))))))))))))))))))))))\

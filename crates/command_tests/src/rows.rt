@@ -67,8 +67,7 @@ fn is_line(line: &[u8], wanted: &str) -> bool {
 fn world(alloc: Global, row: &Row<'_>) -> Result<Fake, Memory> {
     let (input, output) = beside(source(alloc, row)?, sink(alloc, row.failing_puts))?;
     let ((input, output), faults) = beside((input, output), sink(alloc, &[]))?;
-    let ((input, output, faults), files) =
-        beside((input, output, faults), files(alloc, row.file))?;
+    let ((input, output, faults), files) = beside((input, output, faults), files(alloc, row.file))?;
     Ok(Desktop {
         input,
         output,

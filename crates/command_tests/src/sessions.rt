@@ -12,7 +12,8 @@ const INFO: &[u8] = b"{\"parameters\":{\"interfaces\":[\"org.varlink.service\"],
 const MISSING: &[u8] = b"{\"error\":\"org.varlink.service.MethodNotImplemented\",\"parameters\":\
 {\"method\":\"Ping\"}}\0";
 
-const NOT_DESCRIBED: &[u8] = b"{\"error\":\"org.varlink.service.MethodNotImplemented\",\"parameters\":\
+const NOT_DESCRIBED: &[u8] =
+    b"{\"error\":\"org.varlink.service.MethodNotImplemented\",\"parameters\":\
 {\"method\":\"org.varlink.service.GetInterfaceDescription\"}}\0";
 
 /// The line of an input whose first message is no call.

@@ -5,10 +5,10 @@ ghost use Rattle.call_form.specs.CallOf.{IsObject};
 ghost use Rattle.call_form.specs.ReplyText.{IsWritable};
 ghost use Rattle.session_core.specs.Steps.{IsIdle};
 
-use session_core::{Answerer, Given, Hearer, Session, Stop, Turn, serve_alone, serve_link};
 use call_form::{Call, Outcome, Raw, Reply};
 use link_port::{Ends, Failed, List, MemSink, MemSource, Memory, Sink, Source, Value};
 use serde_json::json;
+use session_core::{Answerer, Given, Hearer, Session, Stop, Turn, serve_alone, serve_link};
 use std::alloc::Global;
 use std::test::Fail;
 

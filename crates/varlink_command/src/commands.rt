@@ -141,12 +141,20 @@ fn outcome_of(stop: Stop) -> Result<(), Fault>
 pub fn refuse<S, O, E: Sink, F>(world: &mut Desktop<S, O, E, F>, fault: Fault) -> Status
     requires { E.finished world.old.faults ≡ false }
     ensures told { Concludes [] (Err fault)
-        (record { left = E.left world.old.faults; read_faults = E.read_faults world.old.faults;
-            written = E.written world.old.faults; write_faults = E.write_faults world.old.faults;
-            finished = E.finished world.old.faults })
-        (record { left = E.left world.new.faults; read_faults = E.read_faults world.new.faults;
-            written = E.written world.new.faults; write_faults = E.write_faults world.new.faults;
-            finished = E.finished world.new.faults })
+        (record {
+          left = E.left world.old.faults;
+          read_faults = E.read_faults world.old.faults;
+          written = E.written world.old.faults;
+          write_faults = E.write_faults world.old.faults;
+          finished = E.finished world.old.faults;
+        })
+        (record {
+          left = E.left world.new.faults;
+          read_faults = E.read_faults world.new.faults;
+          written = E.written world.new.faults;
+          write_faults = E.write_faults world.new.faults;
+          finished = E.finished world.new.faults;
+        })
         result.0 }
     ensures rest { world.new ≡ record world.old { faults = world.new.faults } }
 {
@@ -158,12 +166,20 @@ pub fn refuse<S, O, E: Sink, F>(world: &mut Desktop<S, O, E, F>, fault: Fault) -
 fn conclude<E: Sink>(faults: &mut E, path: &str, outcome: Result<(), Fault>) -> Status
     requires { E.finished faults.old ≡ false }
     ensures told { Concludes path.now outcome
-        (record { left = E.left faults.old; read_faults = E.read_faults faults.old;
-            written = E.written faults.old; write_faults = E.write_faults faults.old;
-            finished = E.finished faults.old })
-        (record { left = E.left faults.new; read_faults = E.read_faults faults.new;
-            written = E.written faults.new; write_faults = E.write_faults faults.new;
-            finished = E.finished faults.new })
+        (record {
+          left = E.left faults.old;
+          read_faults = E.read_faults faults.old;
+          written = E.written faults.old;
+          write_faults = E.write_faults faults.old;
+          finished = E.finished faults.old;
+        })
+        (record {
+          left = E.left faults.new;
+          read_faults = E.read_faults faults.new;
+          written = E.written faults.new;
+          write_faults = E.write_faults faults.new;
+          finished = E.finished faults.new;
+        })
         result.0 }
     ensures other { IsAsBefore (E.left faults.old) (E.left faults.new)
         (E.read_faults faults.old) (E.read_faults faults.new) }

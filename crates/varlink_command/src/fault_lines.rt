@@ -39,7 +39,10 @@ pub fn write_fault_line<E: Sink>(faults: &mut E, path: &str, fault: &Fault) -> R
 {
     let mut digits = Buffer::new();
     let text = wording_of(fault, path, digits.format(fault.number()));
-    put_texts(faults, &["varlink: ", text.before, text.middle, text.behind, "\n"])
+    put_texts(
+        faults,
+        &["varlink: ", text.before, text.middle, text.behind, "\n"],
+    )
 }
 
 // A text without a name or a number.
@@ -60,12 +63,32 @@ fn wording_of<'a>(fault: &'a Fault, path: &'a str, digits: &'a str) -> Wording<'
 {
     match fault {
         Fault::BadWords => plain("bad words"),
-        Fault::Unreadable => Wording { before: "cannot read ", middle: path, behind: "" },
-        Fault::PastLimit => Wording { before: "", middle: path, behind: " is too long" },
+        Fault::Unreadable => Wording {
+            before: "cannot read ",
+            middle: path,
+            behind: "",
+        },
+        Fault::PastLimit => Wording {
+            before: "",
+            middle: path,
+            behind: " is too long",
+        },
         Fault::NoDefinition(why) => refusal(why, digits),
-        Fault::Cut { .. } => Wording { before: "cut after ", middle: digits, behind: " bytes" },
-        Fault::NotCall { .. } => Wording { before: "message ", middle: digits, behind: " is no call" },
-        Fault::TooLong { .. } => Wording { before: "message ", middle: digits, behind: " is too long" },
+        Fault::Cut { .. } => Wording {
+            before: "cut after ",
+            middle: digits,
+            behind: " bytes",
+        },
+        Fault::NotCall { .. } => Wording {
+            before: "message ",
+            middle: digits,
+            behind: " is no call",
+        },
+        Fault::TooLong { .. } => Wording {
+            before: "message ",
+            middle: digits,
+            behind: " is too long",
+        },
         Fault::ReadFault => plain("read fault"),
         Fault::WriteFault => plain("write fault"),
         Fault::Long => plain("too many bytes"),

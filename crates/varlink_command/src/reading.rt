@@ -12,11 +12,7 @@ use std::alloc::Global;
 const DEFINITION_LIMIT: u64 = 1_048_576;
 
 /// Reads the definition that the file at this path holds.
-pub fn read_definition<F: Files>(
-    alloc: Global,
-    files: &mut F,
-    path: &str,
-) -> Result<Checked, Fault>
+pub fn read_definition<F: Files>(alloc: Global, files: &mut F, path: &str) -> Result<Checked, Fault>
     ensures reads { ReadsDefinition (F.holds files.old path.now) result }
     ensures counted { FilesFault (F.faults files.old) (F.faults files.new) result }
     ensures asked { AsksOnce (F.paths files.old) (F.paths files.new) path.now }

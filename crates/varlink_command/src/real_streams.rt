@@ -73,6 +73,7 @@ impl<W> RealOutput<W> {
 
 impl<W> Ends for RealOutput<W> {
     ghost write_faults = { λ output. output.faults };
+
     ghost finished = { λ output. output.finished };
 }
 

@@ -25,32 +25,32 @@ pub trait World {
 
 impl<S: Source, O: Sink, E: Sink, F: Files> World for Desktop<S, O, E, F> {
     ghost ends = { λ world. record {
-        input = record {
-            left = S.left world.input;
-            read_faults = S.read_faults world.input;
-            written = S.written world.input;
-            write_faults = S.write_faults world.input;
-            finished = S.finished world.input;
-        };
-        output = record {
-            left = O.left world.output;
-            read_faults = O.read_faults world.output;
-            written = O.written world.output;
-            write_faults = O.write_faults world.output;
-            finished = O.finished world.output;
-        };
-        faults = record {
-            left = E.left world.faults;
-            read_faults = E.read_faults world.faults;
-            written = E.written world.faults;
-            write_faults = E.write_faults world.faults;
-            finished = E.finished world.faults;
-        };
-        files = record {
-            holds = F.holds world.files;
-            paths = F.paths world.files;
-            faults = F.faults world.files;
-        };
+      input = record {
+        left = S.left world.input;
+        read_faults = S.read_faults world.input;
+        written = S.written world.input;
+        write_faults = S.write_faults world.input;
+        finished = S.finished world.input;
+      };
+      output = record {
+        left = O.left world.output;
+        read_faults = O.read_faults world.output;
+        written = O.written world.output;
+        write_faults = O.write_faults world.output;
+        finished = O.finished world.output;
+      };
+      faults = record {
+        left = E.left world.faults;
+        read_faults = E.read_faults world.faults;
+        written = E.written world.faults;
+        write_faults = E.write_faults world.faults;
+        finished = E.finished world.faults;
+      };
+      files = record {
+        holds = F.holds world.files;
+        paths = F.paths world.files;
+        faults = F.faults world.files;
+      };
     } };
 }
 

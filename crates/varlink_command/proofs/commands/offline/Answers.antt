@@ -9,8 +9,12 @@ pub returns-clause-runs : goal.returns-clause-runs
 returns-clause-runs g c =
     let ends = g.E.Ends in
     let seen : g.row.E.Denot → Object = λ faults. record {
-      left = ends.left faults; read_faults = ends.read_faults faults; written = ends.written faults; write_faults = ends.write_faults faults;
-      finished = ends.finished faults } in
+      left = ends.left faults;
+      read_faults = ends.read_faults faults;
+      written = ends.written faults;
+      write_faults = ends.write_faults faults;
+      finished = ends.finished faults;
+    } in
     let after = seen c.conclude.new.faults in
     let outcome = c.run-outcome.result in
     let status = c.conclude.result.0 in

@@ -8,10 +8,12 @@ pub returns-in-Err-Short-clause-shows : goal.returns-in-Err-Short-clause-shows
 returns-in-Err-Short-clause-shows g c =
     let short = c.in-Err-Short.field-0-0 in
     let is = ap Err c.in-Err-Short.field-0-is in
-    let text = Canon c.args.tree.now in
-    (record {
-      front = take short.written text;
-      rest = drop short.written text;
-      whole = sym (take-append-drop short.written text);
-      wrote = c.in-Err-Short.ensures.short short is;
-    }, c.in-Err-Short.ensures.fault short is)
+    let text = Canon c.args.tree.now in (
+      record {
+        front = take short.written text;
+        rest = drop short.written text;
+        whole = sym (take-append-drop short.written text);
+        wrote = c.in-Err-Short.ensures.short short is;
+      },
+      c.in-Err-Short.ensures.fault short is,
+    )
