@@ -5,20 +5,21 @@ use Rattle.call_form.specs.declared.Outcome.{Outcome}
 use Rattle.call_form.specs.declared.TheConstants.{CALL_LIMIT}
 use Rattle.session_core.specs.declared.stops.Stop.{Stop}
 use Rattle.session_core.specs.Run.{run}
+use Rattle.session_core.specs.Tells.{tells_by, always}
 use Rattle.session_core.specs.Served.{Told, ComesTo, Served}
 use Rattle.varlink_command.specs.FixedService.{fixed_outcome}
 use Rattle.varlink_command.specs.Sessions.{SessionServed}
 
 module _ {A : Type 0} where
   abbrev pub tells : A → Call → Outcome → A → Type 0
-  tells _ call outcome _ = outcome ≡ fixed_outcome call
+  tells = tells_by (always fixed_outcome)
 
   told-map : (a b : A) (calls : List Call) (outcomes : List Outcome) → Told tells a calls outcomes b → outcomes ≡ map fixed_outcome calls
   told-map a b [] [] told = refl
   told-map a b [] (outcome ∷ outcomes) told = absurd told
   told-map a b (call ∷ calls) [] told = absurd told
   told-map a b (call ∷ calls) (outcome ∷ outcomes) told =
-      λ i. told.1 i ∷ told-map told.0 b calls outcomes told.2 i
+      λ i. told.1.0 i ∷ told-map told.0 b calls outcomes told.2 i
 
   pub SessionServed-of : (a b : A) (left left' written written' : Option (List ℕ)) (why : Stop) →
       Served tells CALL_LIMIT a b left left' written written' why → SessionServed left left' written written' why

@@ -4,6 +4,7 @@ ghost use Rattle.serde_json.specs.Data.{string, object, put as with_member};
 ghost use Rattle.serde_json.specs.View.{view, members_view};
 ghost use Rattle.call_form.specs.CallOf.{IsObject};
 ghost use Rattle.call_form.specs.ReplyText.{IsWritable};
+ghost use Rattle.session_core.specs.Tells.{tells_by, always};
 ghost use Rattle.varlink_command.specs.FixedService.{info, interfaces, info_reply, fixed_reply, fixed_outcome};
 
 use call_form::{Call, Outcome, Reply, StdError, standard};
@@ -19,7 +20,7 @@ pub struct FixedService;
 impl Answerer for FixedService {
     type Out = Given;
 
-    ghost tells = { λ _ call outcome _. outcome ≡ fixed_outcome call };
+    ghost tells = { tells_by (always fixed_outcome) };
 
     fn answer(&mut self, alloc: Global, call: &Call) -> Result<Given, Memory> {
         let mut replies = List::new(alloc);
