@@ -104,8 +104,8 @@ impl Checked {
         }
     }
 
-    /// The place among the members, counted from 0, of the type of that name, and None where there is no
-    /// such type.
+    /// The place among the members, counted from 0, of the type of that name, and None where there
+    /// is no such type.
     pub fn type_place(&self, name: &str) -> Option<usize>
         ensures { result ≡ position_from (is_named Types name.now) 0 self.now.members }
     {

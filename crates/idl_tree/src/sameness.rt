@@ -5,10 +5,10 @@ ghost use Rattle.idl_tree.specs.Same.{same_type, same_core, same_body, same_fiel
 
 use crate::trees::{Body, Core, Field, Named, Prefix, TypeRef};
 
-/// Whether two types are the same, notes not counted: their prefixes are equal and their cores are the
-/// same. Types by name are the same where the names are equal; structs in place where the names and the
-/// types of their fields are, in order; enums in place where their names are, in order. It takes no
-/// memory.
+/// Whether two types are the same, notes not counted: their prefixes are equal and their cores are
+/// the same. Types by name are the same where the names are equal; structs in place where the names
+/// and the types of their fields are, in order; enums in place where their names are, in order. It
+/// takes no memory.
 #[cycle(same)]
 pub fn same_type(one: &TypeRef, other: &TypeRef) -> bool
     ensures { result ≡ same_type one.now other.now }

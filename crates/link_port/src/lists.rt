@@ -1,4 +1,4 @@
-ghost use Rattle.std.specs.Prelude.{◌≡◌, [], ◌∷◌, ◌++◌, length, OnOk, OnErr};
+ghost use Rattle.std.specs.Prelude.{◌≡◌, [], ◌∷◌, ◌++◌, length, IfOk, OnOk, OnErr};
 
 use crate::refusals::Memory;
 use std::alloc::Global;
@@ -28,6 +28,16 @@ impl<T> List<T> {
     {
         List {
             items: Vec::new(alloc),
+        }
+    }
+
+    /// The empty list, with memory reserved for so many items.
+    pub fn with_room(alloc: Global, room: u64) -> Result<List<T>, Memory>
+        ensures { IfOk result (λ list. list ≡ []) }
+    {
+        match Vec::with_capacity(alloc, room as usize) {
+            Ok(items) => Ok(List { items }),
+            Err(_) => Err(Memory),
         }
     }
 

@@ -3,8 +3,8 @@ use Rattle.std.proofs.Common.{◌≡◌, ℕ, ◌+◌, ◌<◌, ◌≤◌, List,
 use Rattle.std.proofs.lemmas.List.{append-nil}
 use Rattle.std.proofs.lemmas.Bool.Decides.{nat_tests}
 use Rattle.std.specs.List.{flat_map}
-use Rattle.message_frame.specs.Pieces.{NoNul, ended, pieces, Pieces, led}
-use Rattle.message_frame.proofs.PieceLemmas.{pieces-ended, pieces-no_nul, pieces-led, ArePieces-pieces}
+use Rattle.message_frame.specs.Pieces.{NoNul, ended, pieces}
+use Rattle.message_frame.proofs.PieceLemmas.{pieces-ended, pieces-no_nul, led_all, pieces-led_all, ArePieces-pieces}
 use Rattle.call_form.specs.declared.Call.{Call}
 use Rattle.call_form.specs.declared.CallFault.{CallFault}
 use Rattle.call_form.specs.declared.Outcome.{Outcome}
@@ -55,28 +55,6 @@ run_on-fault limit total index payload bytes fault outcomes no_nul short is =
 
 pub longer : (limit n : ℕ) → limit < n → nat_lt limit n ≡ true
 longer limit n long = search (rules, arith)
-
--- bytes without a NUL lead the first piece of what follows them
-abbrev led_all : List ℕ → List (List ℕ) → List ℕ → Pieces
-led_all held [] rest = record { payloads = []; rest = held ++ rest }
-led_all held (payload ∷ payloads) rest = record { payloads = (held ++ payload) ∷ payloads; rest = rest }
-
-led-led_all : (b : ℕ) (held : List ℕ) (payloads : List (List ℕ)) (rest : List ℕ) →
-    led b (led_all held payloads rest).payloads (led_all held payloads rest).rest ≡ led_all (b ∷ held) payloads rest
-led-led_all b held [] rest = refl
-led-led_all b held (payload ∷ payloads) rest = refl
-
-led_all-nil : (payloads : List (List ℕ)) (rest : List ℕ) → (record { payloads = payloads; rest = rest }) ≡ led_all [] payloads rest
-led_all-nil [] rest = refl
-led_all-nil (payload ∷ payloads) rest = refl
-
-pieces-led_all : (held bytes : List ℕ) → NoNul held →
-    pieces (held ++ bytes) ≡ led_all held (pieces bytes).payloads (pieces bytes).rest
-pieces-led_all [] bytes no_nul = led_all-nil (pieces bytes).payloads (pieces bytes).rest
-pieces-led_all (b ∷ held) bytes no_nul =
-    pieces-led b (held ++ bytes) no_nul.0
-    ∙ ap (λ (p : Pieces). led b p.payloads p.rest) (pieces-led_all held bytes no_nul.1)
-    ∙ led-led_all b held (pieces bytes).payloads (pieces bytes).rest
 
 too_long-led : (limit total index : ℕ) (held : List ℕ) (payloads : List (List ℕ)) (rest : List ℕ) (outcomes : List Outcome) →
     limit < length held →
