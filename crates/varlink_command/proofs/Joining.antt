@@ -1,12 +1,12 @@
 -- What puts of several texts do together.
-use Rattle.std.proofs.Common.{◌≡◌, ℕ, ◌+◌, ◌<◌, List, ◌++◌, length, drop, take, get_or, refl, sym, ap, subst, ◌∙◌, append_assoc, Result}
+use Rattle.std.proofs.Common.{◌≡◌, ℕ, ◌+◌, ◌<◌, List, ◌++◌, length, drop, take, get_or, sym, ap, ◌∙◌, append_assoc}
 use Rattle.std.proofs.lemmas.List.{take-append-drop, drop_more}
 use Rattle.std.specs.Borrow.{Bor}
 use Rattle.std.specs.declared.option.Option.{Option}
 use Rattle.std.specs.Io.KnownBytes.{Appends}
 use Rattle.std.proofs.KnownBytes.{Appends-trans}
 use Rattle.link_port.specs.Flow.{AppendsFront}
-use Rattle.varlink_command.specs.Lines.{joined, PutsAll}
+use Rattle.varlink_command.specs.Lines.{joined}
 
 -- the texts from i on are the text at i and those after it
 pub joined-next : (texts : List (Bor (List ℕ))) (i : ℕ) (d : Bor (List ℕ)) (piece : List ℕ) → i < length texts → piece ≡ (get_or texts i d).now
@@ -30,14 +30,3 @@ AppendsFront-more a b c all done piece after n whole first second = record {
       ∙ append_assoc (done ++ take n piece) (drop n piece) after;
   wrote = Appends-trans a b c _ _ first second;
 }
-
--- a line with a name in it, whose texts were put as three
-regroup : (start before name after end : List ℕ) → ((start ++ before) ++ name) ++ (after ++ end) ≡ (start ++ ((before ++ name) ++ after)) ++ end
-regroup start before name after end = simp append_assoc
-
-pub PutsAll-name : {T E : Type 0} (old new : Option (List ℕ)) (faults faults' : ℕ) (result : Result T E) (start before said name after end : List ℕ) → said ≡ name →
-    PutsAll old new faults faults' result (((start ++ before) ++ said) ++ (after ++ end)) →
-    PutsAll old new faults faults' result ((start ++ ((before ++ name) ++ after)) ++ end)
-PutsAll-name old new faults faults' result start before said name after end is puts =
-    subst (λ (all : List ℕ). PutsAll old new faults faults' result all) (regroup start before name after end)
-    (subst (λ (word : List ℕ). PutsAll old new faults faults' result (((start ++ before) ++ word) ++ (after ++ end))) is puts)

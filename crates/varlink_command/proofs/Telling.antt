@@ -1,5 +1,5 @@
 -- What a command did does not change by the telling of its fault.
-use Rattle.std.proofs.Common.{◌≡◌, ℕ, List, Option, Some, None, Result, Ok, Err}
+use Rattle.std.proofs.Common.{ℕ, List, Option, Some, None, Result, Ok, Err}
 use Rattle.std.specs.Prelude.{⊤}
 use Rattle.idl_tree.specs.declared.trees.Interface.{Interface}
 use Rattle.varlink_command.specs.declared.faults.Fault.{Fault}
@@ -9,7 +9,6 @@ use Rattle.varlink_command.specs.declared.words.Command.TheVariants.{Session, Ch
 use Rattle.varlink_command.specs.Definitions.{ShowsDefinition, ShowsRead}
 use Rattle.varlink_command.specs.Ends.{Ends, Object}
 use Rattle.varlink_command.specs.Offline.{Ran}
-use Rattle.varlink_command.specs.Sessions.{ServesSession}
 
 -- the same ends with another sink of faults
 abbrev pub told : Ends → Object → Ends
