@@ -133,26 +133,47 @@ fn read_entry(alloc: Global, spot: Spot, notes: List<Text>, word: &str) -> Resul
                 Err(stop)
             }
         },
-        Spot::MoreNames(names) => match entry_name(alloc, word) {
-            Ok(name) => Ok(Spot::Names(with_name(names, Named { notes, name })?)),
-            Err(stop) => {
-                drop((names, notes));
-                Err(stop)
-            }
-        },
-        Spot::MoreFields(fields) => match entry_name(alloc, word) {
-            Ok(name) => Ok(Spot::Field(Level {
-                fields,
-                notes,
-                name,
-                prefixes: List::new(alloc),
-            })),
-            Err(stop) => {
-                drop((fields, notes));
-                Err(stop)
-            }
-        },
+        Spot::MoreNames(names) => next_name(alloc, names, notes, word),
+        Spot::MoreFields(fields) => next_field(alloc, fields, notes, word),
         spot => stray((spot, notes)),
+    }
+}
+
+// Names of an enum, and one more.
+fn next_name(alloc: Global, names: List<Named>, notes: List<Text>, word: &str) -> Result<Spot, Stop>
+    ensures { Finds result (some_if (is_field_name word.now)
+        (spot.Names (names ++ record { notes = notes; name = word.now } ∷ []))) }
+{
+    match entry_name(alloc, word) {
+        Ok(name) => Ok(Spot::Names(with_name(names, Named { notes, name })?)),
+        Err(stop) => {
+            drop((names, notes));
+            Err(stop)
+        }
+    }
+}
+
+// Fields, and the name of one more.
+fn next_field(
+    alloc: Global,
+    fields: List<Field>,
+    notes: List<Text>,
+    word: &str,
+) -> Result<Spot, Stop>
+    ensures { Finds result (some_if (is_field_name word.now)
+        (spot.Field (record { fields = fields; notes = notes; name = word.now; prefixes = [] }))) }
+{
+    match entry_name(alloc, word) {
+        Ok(name) => Ok(Spot::Field(Level {
+            fields,
+            notes,
+            name,
+            prefixes: List::new(alloc),
+        })),
+        Err(stop) => {
+            drop((fields, notes));
+            Err(stop)
+        }
     }
 }
 
