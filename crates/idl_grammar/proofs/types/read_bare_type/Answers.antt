@@ -1,4 +1,5 @@
-use Rattle.std.proofs.Common.{List, length, sym, subst}
+use Rattle.std.proofs.Common.{List, length, All, sym, subst}
+use Rattle.std.specs.Prelude.{IsUtf8}
 use Rattle.idl_token.specs.declared.tokens.Item.{Item}
 use Rattle.idl_grammar.specs.FollowsType.{ReadsType}
 use Rattle.idl_grammar.specs.RefusesType.{RefusesType}
@@ -6,6 +7,10 @@ use Rattle.idl_grammar.specs.declared.faults.IdlFault.{IdlFault}
 use Rattle.idl_grammar.proofs.Answering.{token_cause}
 use Rattle.idl_grammar.proofs.TypeAnswering.{type_of, type_token_cause}
 use Rattle.idl_grammar.proofs.types.read_bare_type.Goals as goal
+
+pub read_type_items-requires : goal.read_type_items-requires
+read_type_items-requires c =
+    subst (λ (items : List Item). All (λ (item : Item). IsUtf8 item.text.now) items) (sym c.as_slice.ensures) c.in-Ok.ensures.utf8
 
 pub returns-in-Ok : goal.returns-in-Ok
 returns-in-Ok c =
