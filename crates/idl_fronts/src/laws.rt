@@ -1,3 +1,4 @@
+// The law on what definitions go on with.
 ghost use Rattle.std.specs.Prelude.{◌≡◌, ◌↔◌, true};
 ghost use Rattle.idl_token.specs.Lex.{Lexemes};
 ghost use Rattle.idl_rules.specs.Grammar.{Front, definition};

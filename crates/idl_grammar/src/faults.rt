@@ -1,3 +1,4 @@
+// Why a text is refused, and why an item is not taken.
 use idl_token::TokenFault;
 use idl_tree::NameFault;
 use link_port::Memory;

@@ -1,3 +1,4 @@
+// The law that a text is refused for one cause.
 ghost use Rattle.idl_token.specs.Lex.{Bytes};
 ghost use Rattle.idl_tree.specs.declared.trees.Interface.{Interface};
 ghost use Rattle.idl_grammar.specs.declared.faults.IdlFault.{IdlFault};

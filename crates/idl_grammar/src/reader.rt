@@ -1,3 +1,4 @@
+// A definition is read, one item after another, with the notes that wait for their slot.
 ghost use Rattle.std.specs.Prelude.{◌≡◌, ◌≤◌, [], ◌∷◌, ◌++◌, IfOk, IsUtf8, All, map};
 ghost use Rattle.idl_token.specs.Lex.{Lexemes, lexeme};
 ghost use Rattle.idl_tree.specs.declared.trees.Interface.{Interface};

@@ -1,3 +1,4 @@
+// The steps of a reading: what one item leads to.
 ghost use Rattle.std.specs.Prelude.{◌≡◌, not, [], ◌∷◌, ◌++◌, Err, IfOk, IsUtf8};
 ghost use Rattle.idl_tree.specs.declared.trees.Body.TheVariants.{Inline};
 ghost use Rattle.idl_tree.specs.declared.trees.Prefix.TheVariants.{Maybe};

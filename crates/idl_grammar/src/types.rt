@@ -1,3 +1,4 @@
+// One type is read by itself.
 ghost use Rattle.std.specs.Prelude.{◌≡◌, [], None, if◌then◌else◌, IfOk, IsUtf8, All};
 ghost use Rattle.idl_token.specs.Lex.{lexeme};
 ghost use Rattle.idl_tree.specs.declared.trees.TypeRef.{TypeRef};

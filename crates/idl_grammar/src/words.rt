@@ -1,3 +1,4 @@
+// Words, marks and notes as the reader tells them apart.
 ghost use Rattle.std.specs.Prelude.{◌≡◌, IfOk, IsUtf8};
 ghost use Rattle.idl_rules.specs.Settle.{is_keyword, is_gap, trimmed};
 ghost use Rattle.idl_rules.specs.Reading.{keyword_of, core_of, mark_of, one_mark};

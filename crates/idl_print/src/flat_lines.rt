@@ -1,3 +1,4 @@
+// Bodies and types on one line.
 ghost use Rattle.std.specs.Prelude.{◌≡◌, ◌++◌, OnOk, map};
 ghost use Rattle.std.specs.String.{string_bytes};
 ghost use Rattle.idl_rules.specs.Canon.{body_layout, core_layout, type_layout, field_entry, named_entry, flat_entries};

@@ -1,3 +1,4 @@
+// Bodies that are opened, one entry a line, with their notes.
 ghost use Rattle.std.specs.Prelude.{◌≡◌, ◌++◌, ◌+◌, ◌<◌, ◌==◌, ◌&&◌, OnOk, [], map, codes, nat_lt, if◌then◌else◌};
 ghost use Rattle.std.specs.String.{string_bytes};
 ghost use Rattle.idl_rules.specs.Canon.{body_layout, core_layout, type_layout, field_entry, named_entry, entry_line, entry_lines, note_lines, spaces, fits};

@@ -1,3 +1,4 @@
+// Pieces of text, indentation and notes.
 ghost use Rattle.std.specs.Prelude.{◌≡◌, ◌++◌, OnOk, codes};
 ghost use Rattle.std.specs.String.{string_bytes};
 ghost use Rattle.idl_rules.specs.Canon.{spaces, note_line, note_lines, line_end, prefix_text, core_word};

@@ -1,3 +1,4 @@
+// The canonical text of a definition, member by member.
 ghost use Rattle.std.specs.Prelude.{◌≡◌, ◌++◌, OnOk, IfOk, length, if◌then◌else◌};
 ghost use Rattle.idl_token.specs.Lex.{Bytes};
 ghost use Rattle.std.specs.List.{flat_map};

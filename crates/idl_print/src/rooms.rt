@@ -1,3 +1,4 @@
+// The room that is left on a line.
 ghost use Rattle.std.specs.Prelude.{◌≡◌, ◌==◌, not, length, map, false};
 ghost use Rattle.std.specs.List.{list_any, flat_map};
 ghost use Rattle.idl_rules.specs.Canon.{body_layout, core_layout, type_layout, prefix_text, is_noted, flat_entries, named_entry, field_entry};

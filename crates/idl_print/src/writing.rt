@@ -1,3 +1,4 @@
+// The canonical text is written to a sink.
 ghost use Rattle.std.specs.Prelude.{◌≡◌, ◌<◌, ℕ, false, OnOk, IfErr, Err, length, take};
 ghost use Rattle.std.specs.Io.KnownBytes.{Appends};
 ghost use Rattle.link_port.specs.Faults.{Rises};

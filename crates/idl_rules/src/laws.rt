@@ -1,3 +1,4 @@
+// The law that a text spells one tree.
 ghost use Rattle.std.specs.Prelude.{◌≡◌, ◌≤◌};
 ghost use Rattle.idl_token.specs.Lex.{Bytes, Lexemes, Lex};
 ghost use Rattle.idl_tree.specs.Form.{Deep};

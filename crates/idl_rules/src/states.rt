@@ -1,3 +1,4 @@
+// How far a definition has been read, and the stack of its open brackets.
 ghost use Rattle.std.specs.Prelude.{◌≡◌, [], ◌∷◌, length, MatchOption, OnOk, OnErr};
 
 use idl_tree::{Body, Field, Member, Named, Prefix};

@@ -1,3 +1,4 @@
+// Items, and why a text has none.
 use link_port::Memory;
 use std::error::Error;
 use std::fmt;

@@ -1,3 +1,4 @@
+// The names of a tree are checked in text order.
 ghost use Rattle.std.specs.Prelude.{◌≡◌, [], ◌||◌, not, if◌then◌else◌, map, Some, None, IfOk, OnOk};
 ghost use Rattle.std.specs.Str.{bytes_eq};
 ghost use Rattle.std.specs.List.{list_any};

@@ -1,3 +1,4 @@
+// How deep the brackets of a tree are.
 ghost use Rattle.std.specs.Prelude.{◌≡◌, nat_le, map};
 ghost use Rattle.idl_tree.specs.Form.{body_depth, type_depth, part_depth, Deep, greatest};
 

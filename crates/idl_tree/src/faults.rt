@@ -1,3 +1,4 @@
+// Why the names of a tree are refused.
 use link_port::{Memory, Text};
 use std::error::Error;
 use std::fmt;

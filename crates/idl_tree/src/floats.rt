@@ -1,3 +1,4 @@
+// Which types reach `float`.
 ghost use Rattle.std.specs.Prelude.{◌≡◌, [], ◌++◌, ◌<◌, ◌||◌, ◌&&◌, ◌==◌, ℕ, map, length, IfOk, OnOk};
 ghost use Rattle.std.specs.List.{list_any};
 ghost use Rattle.idl_tree.specs.Floats.{body_has_float, type_has_float, body_used, type_used, joined, places_of, member_used, member_has_float, TellsUsers, TellsFloats, name_marked};

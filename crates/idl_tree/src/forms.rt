@@ -1,3 +1,4 @@
+// The form of a tree.
 ghost use Rattle.std.specs.Prelude.{◌≡◌, ◌≤◌, ◌↔◌, ◌==◌, ◌||◌, ◌&&◌, ◌-◌, not, length, slice_index, IsTrue};
 ghost use Rattle.std.specs.List.{list_all};
 ghost use Rattle.idl_tree.specs.Names.{is_field_name};

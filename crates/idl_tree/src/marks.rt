@@ -1,3 +1,4 @@
+// Marks that spread from types to their users.
 ghost use Rattle.std.specs.Prelude.{◌≡◌, ℕ, true, [], ◌∷◌, ◌++◌, IfOk, OnOk, length};
 ghost use Rattle.idl_tree.specs.Marks.{has, is_marked, Closed, Reached, Marked};
 

@@ -1,3 +1,4 @@
+// The three name spaces of an interface.
 ghost use Rattle.std.specs.Prelude.{◌≡◌};
 ghost use Rattle.idl_tree.specs.Faults.{space_of, is_space};
 

@@ -1,3 +1,4 @@
+// The tree of an interface definition.
 use link_port::{Box, List, Text};
 
 /// An interface definition.

@@ -1,3 +1,4 @@
+// The law that a text spells one type.
 ghost use Rattle.std.specs.Prelude.{◌≡◌};
 ghost use Rattle.idl_token.specs.Lex.{Bytes};
 ghost use Rattle.idl_tree.specs.declared.trees.TypeRef.{TypeRef};

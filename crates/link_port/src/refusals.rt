@@ -1,3 +1,4 @@
+// Want of memory, and failures of the ends of a stream.
 use std::alloc::AllocError;
 
 /// Memory was asked for and not granted.

@@ -1,3 +1,4 @@
+// JSON values that contracts see as their trees.
 ghost use Rattle.std.specs.Prelude.{◌≡◌};
 ghost use Rattle.serde_json.specs.View.{view};
 ghost use Rattle.link_port.specs.SoundTrees.{HasUtf8};

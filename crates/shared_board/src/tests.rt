@@ -1,3 +1,4 @@
+// A board that two threads ask, from start to close.
 use crate::{Board, ask_by_two};
 use idl_tree::{Checked, Interface, in_form};
 use link_port::{List, Memory, Text};
