@@ -7,7 +7,7 @@ use Rattle.serde_json.specs.Data.{Data, Members, no_members, member, put}
 use Rattle.idl_tree.specs.Names.{Bytes}
 use Rattle.idl_tree.specs.declared.trees.Prefix.{Prefix}
 use Rattle.idl_tree.specs.declared.trees.Core.{Core}
-use Rattle.typed_value.specs.Reads.{is_before_all, are_in_order}
+use Rattle.typed_value.specs.KeyOrder.{is_before_all, are_in_order}
 use Rattle.typed_value.specs.Shows.{Writer, or_null, with_entries}
 use Rattle.typed_value.proofs.Distinct.{first_true, second_true}
 
@@ -30,7 +30,7 @@ unfolding joined
 joined_assoc no_members b c = refl
 joined_assoc (member k d ms) b c = ap (member k d) (joined_assoc ms b c)
 
-less_is : (o : Ordering) → is_lt o ≡ true → o ≡ Less
+pub less_is : (o : Ordering) → is_lt o ≡ true → o ≡ Less
 less_is Less h = refl
 less_is Equal h = let no : false ≡ true = h in absurd (cc)
 less_is Greater h = let no : false ≡ true = h in absurd (cc)

@@ -14,3 +14,7 @@ pub mod StructBack
 pub mod Whole
 pub mod WholeOfType
 pub mod Sharing
+pub mod OrderedPuts
+pub mod ShownDepths
+pub mod ShownSound
+pub mod ReadDepths

@@ -18,10 +18,12 @@ use Rattle.idl_tree.specs.declared.trees.Body.{Body, out-Body}
 use Rattle.idl_tree.specs.declared.trees.Core.{Core, out-Core}
 use Rattle.idl_tree.specs.declared.trees.Body.TheOpen.{Body-F, Core-F}
 use Rattle.typed_value.specs.Bodies.{behind_maybes, behind_first, part_prefixes, body_in, body_of, fields_in, names_in, fields_of, names_of, fields_or_none, names_or_none}
-use Rattle.typed_value.specs.Ints.{is_int, int_of, has_only_ints}
+use Rattle.typed_value.specs.Ints.{is_int, int_of}
+use Rattle.typed_value.specs.KeyOrder.{is_whole_tree}
 use Rattle.typed_value.specs.OfType.{Fit, fits, fit_step, is_bool, is_whole, is_text, is_foreign, is_plain, items_fit, entries_fit, fields_fit, struct_fits, body_fits}
 use Rattle.typed_value.specs.Parts.{core_at, field_at, item_reads, member_reads}
-use Rattle.typed_value.specs.Reads.{Reader, reader, member_readers, core_by, body_by, all_of, entries_by, are_in_order, member_by, pick_by}
+use Rattle.typed_value.specs.Reads.{Reader, reader, member_readers, core_by, body_by, all_of, entries_by, member_by, pick_by}
+use Rattle.typed_value.specs.KeyOrder.{are_in_order}
 use Rattle.typed_value.specs.Shows.{Writer, writer, write_step, or_null, with_fields, with_entries, with_written, name_at}
 use borrow.Author.Tests.{ltb-true, lt-ltb}
 use Rattle.typed_value.specs.declared.vals.Val.{Val, roll-Val, map-Val}
@@ -73,7 +75,7 @@ text_core scope members s Core-F.Str h = refl
 text_core scope members s core h = let no : false ≡ true = h in absurd (cc)
 
 foreign_core : (scope : Interface) (members : Option (List (Bytes × Reader))) (d : Data) (core : Core-F Body Core Field TypeRef) → is_foreign core ≡ true
-    → is_some (as_object d) ≡ true → has_only_ints d ≡ true → core_by scope d members core ≡ Some (val.Foreign d)
+    → is_some (as_object d) ≡ true → is_whole_tree d ≡ true → core_by scope d members core ≡ Some (val.Foreign d)
 foreign_core scope members d Core-F.Object h o ints = rw (o, ints) refl
 foreign_core scope members d core h o ints = let no : false ≡ true = h in absurd (cc)
 
@@ -309,12 +311,12 @@ module _ (scope : Interface) (defined : Bytes → Bool) (good : members_fault de
   layer_back (Val-F.Foreign d) prefixes core h = by_layer (Val-F.Foreign d) prefixes core (λ fit.
       let plain = is_plain (behind_maybes prefixes) in
       let kind = is_foreign (out-Core core) in
-      let three = first_true (plain && kind && is_some (as_object d)) (has_only_ints d) fit in
+      let three = first_true (plain && kind && is_some (as_object d)) (is_whole_tree d) fit in
       let two = first_true (plain && kind) (is_some (as_object d)) three in
       let object_here = second_true (plain && kind) (is_some (as_object d)) three in
       plain_reads scope d prefixes core (object_some d object_here) (first_true plain kind two)
       ∙ foreign_core scope (option_map (member_readers scope) (as_object d)) d (out-Core core) (second_true plain kind two) object_here
-      (second_true (plain && kind && is_some (as_object d)) (has_only_ints d) fit)
+      (second_true (plain && kind && is_some (as_object d)) (is_whole_tree d) fit)
       ∙ ap Some (sym (rolls-Foreign d)))
 
   pub reads_back : (v : Val) → ReadsBack v

@@ -21,9 +21,11 @@ use Rattle.std.specs.Prelude.{Result, Ok, Err, IfOk}
 use Rattle.typed_value.specs.Gives.{Gives}
 use Rattle.typed_value.specs.declared.faults.ValueFault.{ValueFault}
 use Rattle.typed_value.specs.declared.faults.ValueFault.TheVariants.{Unfit, Memory}
-use Rattle.typed_value.specs.Ints.{is_int, int_of, has_only_ints}
+use Rattle.typed_value.specs.Ints.{is_int, int_of}
+use Rattle.typed_value.specs.KeyOrder.{is_whole_tree}
 use Rattle.typed_value.specs.OfType.{Fit, fits, fit_step, is_bool, is_whole, is_text, is_foreign, fields_fit, struct_fits, body_fits}
-use Rattle.typed_value.specs.Reads.{Reader, reader, item_readers, member_readers, value_by, core_by, body_by, all_of, entries_by, are_in_order, field_by, member_by}
+use Rattle.typed_value.specs.Reads.{Reader, reader, item_readers, member_readers, value_by, core_by, body_by, all_of, entries_by, field_by, member_by}
+use Rattle.typed_value.specs.KeyOrder.{are_in_order}
 use Rattle.typed_value.specs.declared.vals.Val.{Val, out-Val, map-Val}
 use Rattle.typed_value.specs.declared.vals.Val.TheVariants as val
 use Rattle.typed_value.specs.declared.vals.Val.TheVariants.{outs-Bool, outs-Int, outs-Str, outs-Items, outs-Map, outs-Struct, outs-Pick, outs-Nothing, outs-Foreign}
@@ -32,10 +34,10 @@ use Rattle.typed_value.specs.declared.vals.Val.TheFolds.{fold_out-Val}
 use Rattle.typed_value.proofs.Distinct.{first_true, second_true}
 use Rattle.typed_value.proofs.EntriesBack.{both}
 
-some_is : {A : Type 0} {a b : A} → ◌≡◌ {A = Option A} (Some a) (Some b) → a ≡ b
+pub some_is : {A : Type 0} {a b : A} → ◌≡◌ {A = Option A} (Some a) (Some b) → a ≡ b
 some_is h = (cc)
 
-cond_some : {A : Type 0} (b : Bool) (o : Option A) (x : A) → cond b o None ≡ Some x → (b ≡ true) × (o ≡ Some x)
+pub cond_some : {A : Type 0} (b : Bool) (o : Option A) (x : A) → cond b o None ≡ Some x → (b ≡ true) × (o ≡ Some x)
 cond_some {A = A} true o x h = (refl, h)
 cond_some {A = A} false o x h = let no : ◌≡◌ {A = Option A} None (Some x) = h in absurd (cc)
 
@@ -45,12 +47,12 @@ rest_of value None values h = absurd (cc)
 rest_of value (Some rest) values h = (value, (rest, (refl, (refl, sym (some_is h)))))
 
 -- all of them read: the first, and the rest
-split_all : {A : Type 0} (o : Option A) (os : List (Option A)) (values : List A) → all_of (o ∷ os) ≡ Some values
+pub split_all : {A : Type 0} (o : Option A) (os : List (Option A)) (values : List A) → all_of (o ∷ os) ≡ Some values
     → (value : A) × ((rest : List A) × ((o ≡ Some value) × ((all_of os ≡ Some rest) × (values ≡ value ∷ rest))))
 split_all None os values h = absurd (cc)
 split_all (Some value) os values h = rest_of value (all_of os) values h
 
-mapped : {A B : Type 0} (f : A → B) (o : Option A) (b : B) → option_map f o ≡ Some b → (a : A) × ((o ≡ Some a) × (f a ≡ b))
+pub mapped : {A B : Type 0} (f : A → B) (o : Option A) (b : B) → option_map f o ≡ Some b → (a : A) × ((o ≡ Some a) × (f a ≡ b))
 mapped f None b h = absurd (cc)
 mapped f (Some a) b h = (a, (refl, some_is h))
 
@@ -212,11 +214,11 @@ module _ (scope : Interface) where
       let parts = mapped val.Str (as_str d) v h in
       subst (λ (w : Val). fits scope w [] core ≡ true) parts.1.1 (at_layer (val.Str parts.0) (Val-F.Str parts.0) [] core (outs-Str parts.0) (ap is_text out))
   core_all core Core-F.Object d members v each out h =
-      let parts = cond_some (is_some (as_object d) && has_only_ints d) (Some (val.Foreign d)) v h in
-      let o = first_true (is_some (as_object d)) (has_only_ints d) parts.0 in
-      let ints = second_true (is_some (as_object d)) (has_only_ints d) parts.0 in
+      let parts = cond_some (is_some (as_object d) && is_whole_tree d) (Some (val.Foreign d)) v h in
+      let o = first_true (is_some (as_object d)) (is_whole_tree d) parts.0 in
+      let ints = second_true (is_some (as_object d)) (is_whole_tree d) parts.0 in
       subst (λ (w : Val). fits scope w [] core ≡ true) (some_is parts.1) (at_layer (val.Foreign d) (Val-F.Foreign d) [] core (outs-Foreign d)
-      (both (is_foreign (out-Core core) && is_some (as_object d)) (has_only_ints d) (both (is_foreign (out-Core core)) (is_some (as_object d)) (ap is_foreign out) o) ints))
+      (both (is_foreign (out-Core core) && is_some (as_object d)) (is_whole_tree d) (both (is_foreign (out-Core core)) (is_some (as_object d)) (ap is_foreign out) o) ints))
   core_all core (Core-F.Name name) d members v each out h =
       let parts = chained (λ (body : Body). body_by d members (out-Body body)) (type_named name scope) v h in
       body_all core parts.0 (out-Body parts.0) d members v each (ap (body_in scope) out ∙ parts.1.0) refl parts.1.1

@@ -1,5 +1,5 @@
 -- each value of a struct reads back from the object that shows it
-use Rattle.std.proofs.Common.{◌≡◌, ℕ, Bool, true, false, ◌&&◌, [], map, Option, Some, None, is_some, option_map, nat_lt, length, sym, ap, ◌∙◌, arith}
+use Rattle.std.proofs.Common.{◌≡◌, ℕ, Bool, true, false, ◌&&◌, [], map, Option, Some, None, is_some, option_map, nat_lt, length, refl, sym, ap, ◌∙◌, arith}
 use borrow.Author.Tests.{ltb-true}
 use Rattle.serde_json.specs.Data.{Data, object, no_members}
 use Rattle.serde_json.specs.Find.{as_object}
@@ -14,7 +14,8 @@ use Rattle.idl_tree.specs.declared.trees.Core.{Core, out-Core}
 use Rattle.idl_tree.specs.declared.trees.Core.TheVariants.{Inline, outs-Inline}
 use Rattle.idl_tree.specs.declared.trees.Body.TheOpen.{Body-F, Core-F}
 use Rattle.typed_value.specs.Bodies.{body_of, body_in, fields_of, names_in, names_or_none, fields_or_none}
-use Rattle.typed_value.specs.Ints.{is_int, has_only_ints}
+use Rattle.typed_value.specs.Ints.{is_int}
+use Rattle.typed_value.specs.KeyOrder.{is_whole_tree}
 use Rattle.typed_value.specs.OfType.{Fit, fits, fit_step, is_bool, is_whole, is_text, is_foreign, is_of_body}
 use Rattle.typed_value.specs.Reads.{reader, member_readers, core_by, ReadsBody}
 use Rattle.typed_value.specs.Shows.{Writer, writer, write_step, or_null, with_fields, shows_struct, ShowsFields}
@@ -48,10 +49,31 @@ module _ (scope : Interface) (body : Body) where
   layer_shown Val-F.Nothing h fit = let no : false ≡ true = fit in absurd (cc)
   layer_shown (Val-F.Foreign d) h fit =
       let kind = is_foreign (out-Core (Inline body)) in
-      let no : false ≡ true = sym (ap is_foreign (outs-Inline body)) ∙ first_true kind (is_some (as_object d)) (first_true (kind && is_some (as_object d)) (has_only_ints d) fit) in
+      let no : false ≡ true = sym (ap is_foreign (outs-Inline body)) ∙ first_true kind (is_some (as_object d)) (first_true (kind && is_some (as_object d)) (is_whole_tree d) fit) in
       absurd (cc)
 
-  shown : (v : Val) → is_struct_layer (out-Body body) ≡ true → is_of_body scope body v ≡ true
+  -- which is an object
+  layer_object : (x : Val-F Val) → is_struct_layer (out-Body body) ≡ true → fit_step scope (map-Val Val Fit (fits scope) x) [] (Inline body) ≡ true
+      → is_some (as_object (shows_struct scope (fields_of body) x)) ≡ true
+  layer_object (Val-F.Struct values) h fit = refl
+  layer_object (Val-F.Bool b) h fit = let no : false ≡ true = sym (ap is_bool (outs-Inline body)) ∙ fit in absurd (cc)
+  layer_object (Val-F.Int z) h fit =
+      let no : false ≡ true = sym (ap is_whole (outs-Inline body)) ∙ first_true (is_whole (out-Core (Inline body))) (is_int z) fit in absurd (cc)
+  layer_object (Val-F.Str s) h fit = let no : false ≡ true = sym (ap is_text (outs-Inline body)) ∙ fit in absurd (cc)
+  layer_object (Val-F.Items values) h fit = let no : false ≡ true = fit in absurd (cc)
+  layer_object (Val-F.Map entries) h fit = let no : false ≡ true = fit in absurd (cc)
+  layer_object (Val-F.Pick place) h fit = absurd (no_names (out-Body body) place h (sym (ap (λ (o : Option Body). nat_lt place (length (names_or_none o))) in_place) ∙ fit))
+  layer_object Val-F.Nothing h fit = let no : false ≡ true = fit in absurd (cc)
+  layer_object (Val-F.Foreign d) h fit =
+      let kind = is_foreign (out-Core (Inline body)) in
+      let no : false ≡ true = sym (ap is_foreign (outs-Inline body)) ∙ first_true kind (is_some (as_object d)) (first_true (kind && is_some (as_object d)) (is_whole_tree d) fit) in
+      absurd (cc)
+
+  pub shown_object : (v : Val) → is_struct_layer (out-Body body) ≡ true → is_of_body scope body v ≡ true
+      → is_some (as_object (ShowsFields scope body v)) ≡ true
+  shown_object v h fit = layer_object (out-Val v) h (sym (ap (λ (f : Fit). f [] (Inline body)) (fold_out-Val Fit (fit_step scope) v)) ∙ fit)
+
+  pub shown : (v : Val) → is_struct_layer (out-Body body) ≡ true → is_of_body scope body v ≡ true
       → or_null (writer scope v [] (Inline body)) ≡ ShowsFields scope body v
   shown v h fit =
       ap (λ (writes : Writer). or_null (writes [] (Inline body))) (fold_out-Val Writer (write_step scope) v)

@@ -13,8 +13,9 @@ use Rattle.idl_tree.specs.declared.trees.Core.{Core, out-Core}
 use Rattle.idl_tree.specs.declared.trees.Body.TheOpen.{Body-F}
 use Rattle.typed_value.specs.Bodies.{behind_maybes, body_of}
 use Rattle.typed_value.specs.Ints.{has_only_ints}
+use Rattle.typed_value.specs.KeyOrder.{is_as_read, is_whole_tree}
 use Rattle.typed_value.specs.OfType.{Fit, fits, fit_step, is_plain, is_foreign, items_fit, entries_fit, fields_fit, struct_fits, body_fits}
-use Rattle.typed_value.specs.Reads.{are_in_order}
+use Rattle.typed_value.specs.KeyOrder.{are_in_order}
 use Rattle.typed_value.specs.Sizes.{is_whole, whole_step}
 use Rattle.typed_value.specs.declared.vals.Val.{Val, roll-Val, map-Val}
 use Rattle.typed_value.specs.declared.vals.Val.TheOpen.{Val-F}
@@ -99,7 +100,8 @@ module _ (scope : Interface) where
   layer_whole (Val-F.Pick place) prefixes core h = refl
   layer_whole Val-F.Nothing prefixes core h = refl
   layer_whole (Val-F.Foreign d) prefixes core h =
-      second_true (is_plain (behind_maybes prefixes) && is_foreign (out-Core core) && is_some (as_object d)) (has_only_ints d) h
+      first_true (has_only_ints d) (is_as_read d)
+      (second_true (is_plain (behind_maybes prefixes) && is_foreign (out-Core core) && is_some (as_object d)) (is_whole_tree d) h)
 
   pub whole_of_type : (v : Val) → IsWholeOnce v
   whole_of_type = ind-Val IsWholeOnce (λ x y is. subst (λ (z : Val-F Val). IsWholeOnce (roll-Val z)) is (λ prefixes core h.

@@ -1,6 +1,7 @@
 pub mod Bodies
 pub mod Gives
 pub mod Ints
+pub mod KeyOrder
 pub mod Laws
 pub mod OfType
 pub mod Parts

@@ -14,8 +14,8 @@ use Rattle.idl_tree.specs.declared.trees.Core.{Core, out-Core}
 use Rattle.idl_tree.specs.declared.trees.Core.TheVariants.{Inline}
 use Rattle.idl_tree.specs.declared.trees.Body.TheOpen.{Body-F, Core-F}
 use Rattle.typed_value.specs.Bodies.{behind_maybes, body_of, names_or_none}
-use Rattle.typed_value.specs.Ints.{is_int, has_only_ints}
-use Rattle.typed_value.specs.Reads.{are_in_order}
+use Rattle.typed_value.specs.Ints.{is_int}
+use Rattle.typed_value.specs.KeyOrder.{are_in_order, is_whole_tree}
 use Rattle.typed_value.specs.declared.vals.Val.{Val}
 use Rattle.typed_value.specs.declared.vals.Val.TheOpen.{Val-F}
 use Rattle.typed_value.specs.declared.vals.Val.TheFolds.{fold-Val}
@@ -85,7 +85,7 @@ fit_step scope (Val-F.Pick place) prefixes core =
 fit_step scope Val-F.Nothing prefixes core = begins_with_maybe prefixes
 fit_step scope (Val-F.Foreign d) prefixes core =
     is_plain (behind_maybes prefixes) && is_foreign (out-Core core) && is_some (as_object d)
-    && has_only_ints d
+    && is_whole_tree d
 
 abbrev pub fits : Interface → Val → Fit
 fits scope = fold-Val Fit (fit_step scope)

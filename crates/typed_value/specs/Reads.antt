@@ -3,8 +3,6 @@
 -- hold itself by its name: the types are walked along the tree, whose parts are read first.
 use Rattle.std.specs.Prelude.{Bool, true, ◌&&◌, List, [], ◌∷◌, map, position, find, if◌then◌else◌, Option, Some, None, is_some, is_none, option_map, option_and_then}
 use Rattle.std.specs.Map.{lookup}
-use Rattle.std.specs.Ordering.{nat_cmp, is_lt}
-use Rattle.std.specs.Cmp.Lexicographic.{slice_cmp}
 use Rattle.std.specs.Str.{bytes_eq}
 use Rattle.serde_json.specs.Data.{Data, null, boolean, number, string, array, object, Items, no_items, item, Members, no_members, member}
 use Rattle.serde_json.specs.Find.{as_null, as_bool, as_number, as_str, as_object}
@@ -21,7 +19,8 @@ use Rattle.idl_tree.specs.declared.trees.Body.{Body, out-Body}
 use Rattle.idl_tree.specs.declared.trees.Core.{Core, out-Core}
 use Rattle.idl_tree.specs.declared.trees.Body.TheOpen.{Body-F, Core-F}
 use Rattle.typed_value.specs.Bodies.{fields_of}
-use Rattle.typed_value.specs.Ints.{int_of, has_only_ints}
+use Rattle.typed_value.specs.Ints.{int_of}
+use Rattle.typed_value.specs.KeyOrder.{are_in_order, is_whole_tree}
 use Rattle.typed_value.specs.declared.vals.Val.{Val}
 use Rattle.typed_value.specs.declared.vals.Val.TheVariants as val
 
@@ -34,15 +33,6 @@ abbrev pub all_of : {A : Type 0} → List (Option A) → Option (List A)
 all_of [] = Some []
 all_of (None ∷ found) = None
 all_of (Some value ∷ found) = option_map (λ values. value ∷ values) (all_of found)
-
--- keys in byte order, each once
-abbrev pub is_before_all : Bytes → List Bytes → Bool
-is_before_all key [] = true
-is_before_all key (next ∷ keys) = is_lt (slice_cmp nat_cmp key next) && is_before_all key keys
-
-abbrev pub are_in_order : List Bytes → Bool
-are_in_order [] = true
-are_in_order (key ∷ keys) = is_before_all key keys && are_in_order keys
 
 -- the parts of an object by one type, in the order of their keys
 abbrev pub entries_by : List Prefix → Core → List (Bytes × Reader) → Option (List (Bytes × Val))
@@ -65,9 +55,9 @@ abbrev pub pick_by : List Named → Option Bytes → Option Val
 pick_by names word =
     option_and_then (λ w. option_map val.Pick (position (λ named. bytes_eq named.name w) names)) word
 
--- an object of whole numbers is itself
+-- an object of whole numbers, its keys in order as in every tree that is read, is itself
 abbrev pub foreign_by : Data → Option Val
-foreign_by d = if is_some (as_object d) && has_only_ints d then Some (val.Foreign d) else None
+foreign_by d = if is_some (as_object d) && is_whole_tree d then Some (val.Foreign d) else None
 
 -- a struct is an object, whose other members are dropped; an enum is one of its names
 abbrev pub body_by : Data → Option (List (Bytes × Reader)) → Body-F Body Core Field TypeRef → Option Val

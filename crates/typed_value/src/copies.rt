@@ -27,7 +27,7 @@ pub fn copy(alloc: Global, val: &Val) -> Result<Val, Memory>
 fn copy_all(alloc: Global, values: &[Val]) -> Result<List<Val>, Memory>
     ensures { IfOk result (λ copies. copies ≡ values.now) }
 {
-    let mut copies = List::new(alloc);
+    let mut copies = List::with_room(alloc, values.len() as u64)?;
     for value in values {
         copies.push(copy(alloc, value)?)?;
     }
@@ -38,7 +38,7 @@ fn copy_all(alloc: Global, values: &[Val]) -> Result<List<Val>, Memory>
 fn copy_entries(alloc: Global, entries: &[(Text, Val)]) -> Result<List<(Text, Val)>, Memory>
     ensures { IfOk result (λ copies. copies ≡ entries.now) }
 {
-    let mut copies = List::new(alloc);
+    let mut copies = List::with_room(alloc, entries.len() as u64)?;
     for entry in entries {
         let key = Text::of(alloc, entry.0.as_str())?;
         copies.push((key, copy(alloc, &entry.1)?))?;

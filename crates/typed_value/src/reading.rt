@@ -6,7 +6,7 @@ ghost use Rattle.idl_tree.specs.Form.{begins_with_maybe};
 ghost use Rattle.idl_tree.specs.declared.trees.Prefix.TheVariants.{Array, Map};
 ghost use Rattle.typed_value.specs.Gives.{Gives};
 ghost use Rattle.typed_value.specs.Ints.{int_of};
-ghost use Rattle.typed_value.specs.OfType.{is_of_type};
+ghost use Rattle.typed_value.specs.OfType.{is_of_type, fits};
 ghost use Rattle.typed_value.specs.Parts.{items_at, members_at, field_at, fields_at, core_at};
 ghost use Rattle.typed_value.specs.Reads.{Reads, ReadsBody, reader, member_by, pick_by, foreign_by};
 ghost use Rattle.typed_value.specs.declared.vals.Val.TheVariants as val;
@@ -28,7 +28,21 @@ pub fn read(alloc: Global, scope: &Checked, of: &TypeRef, json: &Value) -> Resul
     ensures reads { Gives result (Reads scope.now of.now json.now) }
     ensures of_type { IfOk result (λ value. is_of_type scope.now of.now value ≡ true) }
 {
-    read_type(alloc, scope, of.prefixes.as_slice(), &of.core, json.inner())
+    read_by(alloc, scope, of.prefixes.as_slice(), &of.core, json)
+}
+
+/// Reads a JSON value by the type that these prefixes and this core make, as `read` does.
+pub fn read_by(
+    alloc: Global,
+    scope: &Checked,
+    prefixes: &[Prefix],
+    core: &Core,
+    json: &Value,
+) -> Result<Val, ValueFault>
+    ensures reads { Gives result (reader scope.now json.now prefixes.now core.now) }
+    ensures of_type { IfOk result (λ value. fits scope.now value prefixes.now core.now ≡ true) }
+{
+    read_type(alloc, scope, prefixes, core, json.inner())
 }
 
 #[cycle(reading)]
@@ -108,7 +122,7 @@ fn read_items(
 ) -> Result<Val, ValueFault>
     ensures { Gives result (items_at scope.now prefixes.now core.now (items_view items.now.items)) }
 {
-    let mut values = List::new(alloc);
+    let mut values = List::with_room(alloc, items.len() as u64)?;
     for item in items {
         let value = read_type(alloc, scope, prefixes, core, item)?;
         values.push(value)?;
@@ -127,7 +141,7 @@ fn read_members(
     ensures { Gives result
         (members_at scope.now prefixes.now core.now (members_view members.now.entries)) }
 {
-    let mut entries = List::new(alloc);
+    let mut entries = List::with_room(alloc, members.len() as u64)?;
     for (key, member) in members.iter() {
         let value = read_type(alloc, scope, prefixes, core, member)?;
         entries.push((Text::of(alloc, key.as_str())?, value))?;
@@ -177,7 +191,7 @@ fn read_struct(
 ) -> Result<Val, ValueFault>
     ensures { Gives result (fields_at scope.now (view json.now) fields.now) }
 {
-    let mut values = List::new(alloc);
+    let mut values = List::with_room(alloc, fields.len() as u64)?;
     for field in fields {
         let value = read_field(alloc, scope, field, json)?;
         values.push(value)?;

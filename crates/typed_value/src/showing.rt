@@ -1,6 +1,7 @@
 ghost use Rattle.std.specs.Prelude.{◌≡◌, option_map, IfOk, OnOk, Some};
 ghost use Rattle.serde_json.specs.Data.{array, object, string, put as with_member};
 ghost use Rattle.serde_json.specs.View.{view, members_view};
+ghost use Rattle.link_port.specs.SoundTrees.{HasUtf8};
 ghost use Rattle.typed_value.specs.Shows.{Shows, ShowsFields, writer, or_null, items_shown, entries_shown, fields_shown, name_at};
 
 use crate::bodies::{core_fields, core_names, fields_of};
@@ -14,15 +15,32 @@ use std::alloc::Global;
 /// Shows a value of a type as JSON. A value of another type is shown too, as far as it goes: what its
 /// type has no name for is left out or null.
 pub fn show(alloc: Global, scope: &Checked, of: &TypeRef, val: &Val) -> Result<Value, Memory>
-    ensures { IfOk result (λ json. json ≡ Shows scope.now of.now val.now) }
+    ensures shows { IfOk result (λ json. json ≡ Shows scope.now of.now val.now) }
+    ensures utf8 { IfOk result (λ json. HasUtf8 json) }
 {
-    let written = write(alloc, val, scope, of.prefixes.as_slice(), &of.core)?;
+    show_by(alloc, scope, of.prefixes.as_slice(), &of.core, val)
+}
+
+/// Shows a value of the type that these prefixes and this core make, as `show` does.
+pub fn show_by(
+    alloc: Global,
+    scope: &Checked,
+    prefixes: &[Prefix],
+    core: &Core,
+    val: &Val,
+) -> Result<Value, Memory>
+    ensures shows { IfOk result
+        (λ json. json ≡ or_null (writer scope.now val.now prefixes.now core.now)) }
+    ensures utf8 { IfOk result (λ json. HasUtf8 json) }
+{
+    let written = write(alloc, val, scope, prefixes, core)?;
     Ok(Value::of(or_null(written)))
 }
 
 /// Shows the value of a struct as JSON. What is no struct's value is null.
 pub fn show_fields(alloc: Global, scope: &Checked, body: &Body, val: &Val) -> Result<Value, Memory>
-    ensures { IfOk result (λ json. json ≡ ShowsFields scope.now body.now val.now) }
+    ensures shows { IfOk result (λ json. json ≡ ShowsFields scope.now body.now val.now) }
+    ensures utf8 { IfOk result (λ json. HasUtf8 json) }
 {
     match val {
         Val::Struct(values) => {

@@ -27,8 +27,9 @@ pub fn read_fields(
         (first_unread scope.now body.now json.now) }
     ensures of_body { IfOk result (λ value. is_of_body scope.now body.now value ≡ true) }
 {
-    let mut values = List::new(alloc);
-    for field in fields_of(body) {
+    let fields = fields_of(body);
+    let mut values = List::with_room(alloc, fields.len() as u64)?;
+    for field in fields {
         match read_field(alloc, scope, field, json.inner()) {
             Ok(value) => values.push(value)?,
             Err(ValueFault::Unfit) => return Err(unread(alloc, field)),

@@ -40,7 +40,7 @@ read_members-loop-key-preserved t c =
     let less = rw c.in-Some.ensures.steps at within in
     let rest = all_of (member_reads c.args.scope.now c.args.prefixes.now c.args.core.now (members_view c.next.new.self)) in
     record {
-      left = rw (c.in_ok-push.ensures.ok, c.in_ok-of.ensures, c.as_str.ensures.value) (sym (after_more c.loop-key.entries _ rest) ∙ opened);
+      left = rw (c.in_ok-push.ensures.ok, c.in_ok-of.ensures.bytes, c.as_str.ensures.value) (sym (after_more c.loop-key.entries _ rest) ∙ opened);
       within = omega (arith, less);
     }
 

@@ -27,7 +27,7 @@ pub returns-in-Err-Unfit-clause-reads : goal.returns-in-Err-Unfit-clause-reads
 returns-in-Err-Unfit-clause-reads c =
     let scope = c.args.scope.now in
     let d = c.args.json.now in
-    let items = c.fields_of-field-items.result.now in
+    let items = c.fields_of-fields.result.now in
     let item = c.field-item.result in
     let unfit = rw (c.in-Err-Unfit.field-0-is, c.inner.ensures) at c.in-Err-Unfit.ensures in
     let at = here items c.loop-field.field-index item c.loop-field-test.true c.field-item.is in
@@ -36,21 +36,21 @@ returns-in-Err-Unfit-clause-reads c =
     let read = body_is scope (out-Body c.args.body.now) d c.requires.of_struct c.requires.of_object in
     let unread = first_is scope c.args.body.now d c.requires.of_object in
     reported c.unread.result item.name _ _ c.unread.ensures
-    (rw (read, ← c.fields_of-field-items.ensures, ← left) refl)
-    (rw (unread, ← c.fields_of-field-items.ensures, ← first) refl)
+    (rw (read, ← c.fields_of-fields.ensures, ← left) refl)
+    (rw (unread, ← c.fields_of-fields.ensures, ← first) refl)
 
 pub returns-clause-reads : goal.returns-clause-reads
 returns-clause-reads c =
     let scope = c.args.scope.now in
     let d = c.args.json.now in
-    let items = c.fields_of-field-items.result.now in
+    let items = c.fields_of-fields.result.now in
     let done : drop c.loop-field.field-index items ≡ [] = drop_of_length-le items c.loop-field-test.false in
     let left = rw (done, append-nil) at c.loop-field.invariant.left in
     let first = rw done at c.loop-field.invariant.first in
     let read = body_is scope (out-Body c.args.body.now) d c.requires.of_struct c.requires.of_object in
     let unread = first_is scope c.args.body.now d c.requires.of_object in (
-      rw (read, ← c.fields_of-field-items.ensures, ← left) refl,
-      rw (unread, ← c.fields_of-field-items.ensures, ← first) refl,
+      rw (read, ← c.fields_of-fields.ensures, ← left) refl,
+      rw (unread, ← c.fields_of-fields.ensures, ← first) refl,
     )
 
 pub returns-clause-of_body : goal.returns-clause-of_body

@@ -8,8 +8,8 @@ use Rattle.typed_value.proofs.structs.read_fields.Given as goal
 abbrev pub invariant-loop-field : goal.invariant-loop-field
 invariant-loop-field l =
     record {
-      left : after l.values (all_of (map (field_at l.scope l.json) (drop l.field-index l.field-items)))
-          ≡ all_of (map (field_at l.scope l.json) l.field-items);
-      first : find (λ (field : Field). is_none (field_at l.scope l.json field)) (drop l.field-index l.field-items)
-          ≡ find (λ (field : Field). is_none (field_at l.scope l.json field)) l.field-items;
+      left : after l.values (all_of (map (field_at l.scope l.json) (drop l.field-index l.fields)))
+          ≡ all_of (map (field_at l.scope l.json) l.fields);
+      first : find (λ (field : Field). is_none (field_at l.scope l.json field)) (drop l.field-index l.fields)
+          ≡ find (λ (field : Field). is_none (field_at l.scope l.json field)) l.fields;
     }
