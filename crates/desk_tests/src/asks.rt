@@ -1,13 +1,13 @@
 // Passes that ask, split, join and close.
-ghost use Rattle.std.specs.Prelude.{◌≡◌, ◌+◌};
+ghost use Rattle.std.specs.Prelude.{◌≡◌, ◌+◌, ◌-◌};
 ghost use Rattle.turn_desk.specs.Passes.{IsOf, all_asks};
 
+use turn_desk::{AskFault, Desk, Entry, Forgotten, Kept, Object, Pass};
 use link_port::Memory;
 use std::alloc::Global;
 use std::sync::Wait;
 use std::test::Fail;
 use std::thread::join;
-use turn_desk::{AskFault, Desk, Entry, Forgotten, Kept, Object, Pass};
 
 /// A running total. A request is a number to be added, and is answered with the total.
 #[derive(Drop)]
@@ -123,34 +123,69 @@ fn two_threads_ask_a_hundred_times_each(rt: HostRuntime) -> Result<(), Fail> {
     Ok(())
 }
 
+/// The reply to one request, or 0.
+fn reply<R: Wait>(
+    rt: &R,
+    alloc: Global,
+    desk: &Desk<Total, Whole>,
+    pass: &mut Pass<Total, Whole>,
+    number: u64,
+) -> u64
+    requires { IsOf desk.now pass.old }
+    ensures desk { IsOf desk.now pass.new }
+    ensures left { pass.new.left ≡ pass.old.left - 1 }
+    ensures asks { all_asks pass.new ≡ all_asks pass.old }
+{
+    desk.ask(rt, alloc, pass, number).unwrap_or(0)
+}
+
+/// Whether the history has just these requests, of these passes.
+fn is_history(history: &[Entry<u64>], entries: &[(u64, u64)]) -> bool {
+    history.len() == entries.len()
+        && history.iter().zip(entries).all(|(entry, (pass, request))| entry.pass == *pass
+            && entry.request == *request)
+}
+
 #[test]
 fn a_tree_of_four_passes(rt: HostRuntime) -> Result<(), Fail> {
     let alloc = rt.alloc();
     let (desk, mut root): (Desk<Total, Whole>, _) = Desk::start(alloc, Total { sum: 0 }, 1 << 62)?;
-    assert_eq!(rt; desk.ask(&rt, alloc, &mut root, 1), Ok(1));
+    let a = reply(&rt, alloc, &desk, &mut root, 1);
     let mut left = desk.split(&mut root, 1000);
-    assert_eq!(rt; desk.ask(&rt, alloc, &mut left, 10), Ok(11));
+    let b = reply(&rt, alloc, &desk, &mut left, 10);
     let mut right = desk.split(&mut root, 1000);
-    assert_eq!(rt; desk.ask(&rt, alloc, &mut right, 100), Ok(111));
+    let c = reply(&rt, alloc, &desk, &mut right, 100);
     let mut leaf = desk.split(&mut left, 500);
-    assert_eq!(rt; desk.ask(&rt, alloc, &mut leaf, 1000), Ok(1111));
-    assert_eq!(rt; desk.ask(&rt, alloc, &mut root, 2), Ok(1113));
-    assert_eq!(rt; desk.ask(&rt, alloc, &mut root, 2), Ok(1115));
+    let d = reply(&rt, alloc, &desk, &mut leaf, 1000);
+    let e = reply(&rt, alloc, &desk, &mut root, 2);
+    let f = reply(&rt, alloc, &desk, &mut root, 2);
     desk.join(&mut leaf, right);
-    assert_eq!(rt; desk.ask(&rt, alloc, &mut left, 20), Ok(1135));
+    let g = reply(&rt, alloc, &desk, &mut left, 20);
     desk.join(&mut leaf, root);
-    assert_eq!(rt; desk.ask(&rt, alloc, &mut leaf, 2000), Ok(3135));
+    let h = reply(&rt, alloc, &desk, &mut leaf, 2000);
     desk.join(&mut leaf, left);
-    assert_eq!(rt; (leaf.number(), leaf.left() + leaf.asked()), (3, 1 << 62));
+    let (number, asks) = (leaf.number(), leaf.left() + leaf.asked());
     let (total, ledger) = desk.close(leaf);
-    assert_eq!(rt; total.sum, 3135);
     let history = ledger.into_list();
-    let entries = history.as_slice();
-    assert_eq!(rt; entries.len(), 8);
-    let passes: [u64; 8] = [0, 1, 2, 3, 0, 0, 1, 3];
-    let requests: [u64; 8] = [1, 10, 100, 1000, 2, 2, 20, 2000];
-    for (entry, (pass, request)) in entries.iter().zip(passes.iter().zip(requests.iter())) {
-        assert_eq!(rt; (entry.pass, entry.request), (*pass, *request));
-    }
+    assert_eq!(rt; (number, asks, total.sum), (3, 1 << 62, 3135));
+    assert_eq!(rt;
+        [a, b, c, d, e, f, g, h],
+        [1, 11, 111, 1111, 1113, 1115, 1135, 3135]
+    );
+    assert!(rt;
+        is_history(
+            history.as_slice(),
+            &[
+                (0, 1),
+                (1, 10),
+                (2, 100),
+                (3, 1000),
+                (0, 2),
+                (0, 2),
+                (1, 20),
+                (3, 2000),
+            ],
+        )
+    );
     Ok(())
 }
