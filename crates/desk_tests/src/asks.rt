@@ -2,12 +2,12 @@
 ghost use Rattle.std.specs.Prelude.{◌≡◌, ◌+◌, ◌-◌};
 ghost use Rattle.turn_desk.specs.Passes.{IsOf, all_asks};
 
-use turn_desk::{AskFault, Desk, Entry, Forgotten, Kept, Object, Pass};
 use link_port::Memory;
 use std::alloc::Global;
 use std::sync::Wait;
 use std::test::Fail;
 use std::thread::join;
+use turn_desk::{AskFault, Desk, Entry, Forgotten, Kept, Object, Pass};
 
 /// A running total. A request is a number to be added, and is answered with the total.
 #[derive(Drop)]

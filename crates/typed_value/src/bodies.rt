@@ -1,3 +1,4 @@
+// The body behind a core, and its fields.
 ghost use Rattle.std.specs.Prelude.{◌≡◌};
 ghost use Rattle.std.specs.Option.{option_copied};
 ghost use Rattle.typed_value.specs.Bodies.{body_of, fields_of, names_of, fields_or_none, names_or_none};

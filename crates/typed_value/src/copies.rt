@@ -1,3 +1,4 @@
+// Copies of values.
 ghost use Rattle.std.specs.Prelude.{◌≡◌, IfOk};
 
 use crate::showing::copy_tree;

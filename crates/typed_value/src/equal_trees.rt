@@ -1,3 +1,4 @@
+// Whether two JSON trees are equal.
 ghost use Rattle.std.specs.Prelude.{◌≡◌, ◌↔◌, IsTrue, true};
 ghost use Rattle.serde_json.specs.View.{view, items_view, members_view};
 ghost use Rattle.typed_value.specs.Ints.{has_only_ints, items_have_only_ints, members_have_only_ints, IsNumber};

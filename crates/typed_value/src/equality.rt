@@ -1,3 +1,4 @@
+// Whether two values are equal.
 ghost use Rattle.std.specs.Prelude.{◌≡◌, ◌↔◌, IsTrue, true};
 ghost use Rattle.std.specs.List.{list_all};
 ghost use Rattle.idl_tree.specs.Names.{Bytes};

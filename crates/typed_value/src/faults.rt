@@ -1,3 +1,4 @@
+// Why nothing reads.
 use link_port::{Memory, Text};
 
 /// Why a JSON value has no value by a type.

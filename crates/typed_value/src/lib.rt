@@ -34,6 +34,3 @@ pub use sizes::levels;
 pub use structs::read_fields;
 pub use vals::Val;
 pub use weights::weight;
-
-#[cfg(test)]
-mod tests;

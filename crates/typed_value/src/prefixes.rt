@@ -1,3 +1,4 @@
+// What is left of a type behind its prefixes.
 ghost use Rattle.std.specs.Prelude.{◌≡◌, false};
 ghost use Rattle.idl_tree.specs.Form.{begins_with_maybe};
 ghost use Rattle.typed_value.specs.Bodies.{behind_maybes, part_prefixes};

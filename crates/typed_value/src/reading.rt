@@ -1,3 +1,4 @@
+// Values are read from JSON trees, by types.
 ghost use Rattle.std.specs.Prelude.{◌≡◌, ◌∷◌, false, option_and_then, option_map, position, IfOk, true};
 ghost use Rattle.std.specs.Str.{bytes_eq};
 ghost use Rattle.serde_json.specs.Find.{as_bool, as_number, as_str};

@@ -1,3 +1,4 @@
+// Values are shown as JSON trees.
 ghost use Rattle.std.specs.Prelude.{◌≡◌, option_map, IfOk, OnOk, Some};
 ghost use Rattle.serde_json.specs.Data.{array, object, string, put as with_member};
 ghost use Rattle.serde_json.specs.View.{view, members_view};

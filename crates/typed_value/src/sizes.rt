@@ -1,3 +1,4 @@
+// The levels of values.
 ghost use Rattle.std.specs.Prelude.{◌≡◌, ◌^◌, ◌+◌, min, map};
 ghost use Rattle.serde_json.specs.Data.{depth, items_depth, members_depth};
 ghost use Rattle.serde_json.specs.View.{view, items_view, members_view};

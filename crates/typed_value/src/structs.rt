@@ -1,3 +1,4 @@
+// The fields of a struct, read and shown.
 ghost use Rattle.std.specs.Prelude.{◌≡◌, true, is_some, IfOk};
 ghost use Rattle.serde_json.specs.Find.{as_object};
 ghost use Rattle.idl_tree.specs.Form.{is_struct};

@@ -1,3 +1,4 @@
+// What is asked of JSON trees that stand for themselves.
 ghost use Rattle.std.specs.Prelude.{◌≡◌, true, is_some, IsTrue};
 ghost use Rattle.serde_json.specs.View.{view, number_view, items_view, members_view};
 ghost use Rattle.typed_value.specs.Ints.{int_of, has_only_ints, items_have_only_ints, members_have_only_ints};

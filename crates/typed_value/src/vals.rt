@@ -1,3 +1,4 @@
+// Values of types.
 use link_port::{List, Text, Value};
 
 /// A value of a type of an interface definition (varlink.org, "Interface Definition"): JSON as it was

@@ -1,3 +1,4 @@
+// The weight of values.
 ghost use Rattle.std.specs.Prelude.{◌≡◌, ◌^◌, ◌+◌, ◌≤◌, min, map, sum, length};
 ghost use Rattle.serde_json.specs.View.{view, items_view, members_view};
 ghost use Rattle.typed_value.specs.Sizes.{weight_of, data_weight, items_weight, members_weight};

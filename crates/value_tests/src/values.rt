@@ -2,15 +2,15 @@
 ghost use Rattle.std.specs.Prelude.{◌≡◌};
 ghost use Rattle.idl_tree.specs.Form.{is_struct};
 
-use crate::{
-    FieldFault, Val, ValueFault, copy, levels, read, read_fields, same, show, show_fields, weight,
-};
 use idl_tree::{
     Body, Checked, Core, Field, Interface, Member, Named, Part, Prefix, TypeRef, in_form,
 };
 use link_port::{List, Memory, Text, Value};
 use serde_json::Value as Json;
 use std::alloc::Global;
+use typed_value::{
+    FieldFault, Val, ValueFault, copy, levels, read, read_fields, same, show, show_fields, weight,
+};
 
 // What each JSON text is by a type, or by the fields of `Entry`: the text that shows the value, or why
 // nothing reads.
