@@ -1,4 +1,6 @@
 // One command over ends in memory: what it is given, and whether it leaves what it must.
+ghost use Rattle.std.specs.Prelude.{◌≡◌, false, IfOk};
+
 use link_port::{List, MemFiles, MemSink, MemSource, Memory, Text};
 use std::alloc::Global;
 use varlink_command::{Desktop, Status, offline};
@@ -40,17 +42,37 @@ pub const NOTHING: Row<'static> = Row {
 
 /// Whether each row leaves what it must.
 pub fn are_right(alloc: Global, rows: &[Row<'_>]) -> bool {
-    rows.iter().all(|row| is_right(alloc, row) == Ok(true))
+    for row in rows {
+        if is_right(alloc, row) != Ok(true) {
+            return false;
+        }
+    }
+    true
 }
 
 fn is_right(alloc: Global, row: &Row<'_>) -> Result<bool, Memory> {
-    let (words, mut world) = beside(texts(alloc, row.words)?, world(alloc, row))?;
-    let status = offline(alloc, &words, &mut world);
+    let words = texts(alloc, row.words)?;
+    match world(alloc, row) {
+        Ok(world) => Ok(leaves(alloc, &words, world, row)),
+        Err(memory) => {
+            drop(words);
+            Err(memory)
+        }
+    }
+}
+
+/// Whether the command of these words leaves what the row says.
+fn leaves(alloc: Global, words: &[Text], world: Fake, row: &Row<'_>) -> bool
+    requires output { world.output.finished ≡ false }
+    requires faults { world.faults.finished ≡ false }
+{
+    let mut world = world;
+    let status = offline(alloc, words, &mut world);
     let is_right = status == Status(row.status)
         && world.output.bytes() == row.output
         && is_line(world.faults.bytes(), row.line);
-    drop((words, world));
-    Ok(is_right)
+    drop(world);
+    is_right
 }
 
 /// Whether the line of the fault is the wanted one.
@@ -64,16 +86,30 @@ fn is_line(line: &[u8], wanted: &str) -> bool {
     }
 }
 
-fn world(alloc: Global, row: &Row<'_>) -> Result<Fake, Memory> {
-    let (input, output) = beside(source(alloc, row)?, sink(alloc, row.failing_puts))?;
-    let ((input, output), faults) = beside((input, output), sink(alloc, &[]))?;
-    let ((input, output, faults), files) = beside((input, output, faults), files(alloc, row.file))?;
-    Ok(Desktop {
-        input,
-        output,
-        faults,
-        files,
-    })
+fn world(alloc: Global, row: &Row<'_>) -> Result<Fake, Memory>
+    ensures output { IfOk result (λ world. world.output.finished ≡ false) }
+    ensures faults { IfOk result (λ world. world.faults.finished ≡ false) }
+{
+    let (input, files) = beside(source(alloc, row)?, files(alloc, row.file))?;
+    let output = match sink(alloc, row.failing_puts) {
+        Ok(output) => output,
+        Err(memory) => {
+            drop((input, files));
+            return Err(memory);
+        }
+    };
+    match sink(alloc, &[]) {
+        Ok(faults) => Ok(Desktop {
+            input,
+            output,
+            faults,
+            files,
+        }),
+        Err(memory) => {
+            drop((input, files, output));
+            Err(memory)
+        }
+    }
 }
 
 fn source(alloc: Global, row: &Row<'_>) -> Result<MemSource, Memory> {
@@ -82,7 +118,9 @@ fn source(alloc: Global, row: &Row<'_>) -> Result<MemSource, Memory> {
     MemSource::new(alloc, input, sizes, failing)
 }
 
-fn sink(alloc: Global, failing: &[u64]) -> Result<MemSink, Memory> {
+fn sink(alloc: Global, failing: &[u64]) -> Result<MemSink, Memory>
+    ensures { IfOk result (λ sink. sink.finished ≡ false) }
+{
     MemSink::new(alloc, 8192, List::new(alloc), list(alloc, failing)?)
 }
 

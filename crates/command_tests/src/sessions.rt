@@ -44,7 +44,7 @@ const ANSWERED: [(&[u8], &[u8]); 6] = [
     (b"{\"method\":\"Ping\",\"more\":null}\0", MISSING),
 ];
 
-fn are_answered(alloc: Global, rows: &[(&[u8], &[u8])]) -> bool {
+fn are_answered<'x>(alloc: Global, rows: &'x [(&'x [u8], &'x [u8])]) -> bool {
     for (input, output) in rows {
         let row = Row {
             input,
@@ -76,7 +76,7 @@ const REFUSED: [(&[u8], &str); 6] = [
     ),
 ];
 
-fn are_refused(alloc: Global, rows: &[(&[u8], &str)]) -> bool {
+fn are_refused<'x>(alloc: Global, rows: &'x [(&'x [u8], &'x str)]) -> bool {
     for (input, line) in rows {
         let row = Row {
             input,
