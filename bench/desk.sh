@@ -306,7 +306,7 @@ done
 for rounds in 500000 5000000; do
     ./out/desk_bench 2 "$rounds" 0 1 > asked.log &
     id=$!
-    while now=$(sed -n 's/^VmHWM:[ \t]*//p' "/proc/$id/status") && [ -n "$now" ]; do
+    while now=$(sed -n 's/^VmHWM:[ \t]*//p' "/proc/$id/status" 2> /dev/null) && [ -n "$now" ]; do
         most=$now
         sleep 0.01
     done
