@@ -7,4 +7,3 @@ pub mod OtherLengths
 pub mod Reaching
 pub mod Sharing
 pub mod Using
-pub mod Sharing

@@ -51,7 +51,7 @@ struct Limited {
 }
 
 impl Hearer for Limited {
-    ghost use Rattle.session_core.specs.declared.tests.Refusal.TheVariants.{Full, Memory};
+    ghost use Rattle.session_tests.specs.declared.sessions.Refusal.TheVariants.{Full, Memory};
     ghost use Rattle.session_core.specs.declared.stops.Stop.TheVariants as stop;
 
     type Out = Given;
