@@ -12,3 +12,4 @@ pub mod Outcomes
 pub mod Tells
 pub mod Sent
 pub mod Heard
+pub mod Ways

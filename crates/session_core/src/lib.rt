@@ -11,6 +11,7 @@ mod replies;
 mod serving;
 mod sessions;
 mod stops;
+mod ways;
 mod writing;
 
 pub use hearers::Hearer;

@@ -9,9 +9,9 @@ ghost use Rattle.session_core.specs.Served.{Served, ReadFaults, WriteFaults};
 use crate::hearers::Hearer;
 use crate::outboxes::Outbox;
 use crate::replies::Answerer;
-use crate::serving::serve_take;
 use crate::sessions::{MOST_BYTES, Session};
 use crate::stops::Stop;
+use crate::ways::{Apart, Joined, Way};
 use call_form::CALL_LIMIT;
 use link_port::{Failed, Memory, Sink, Source};
 use std::alloc::Global;
@@ -42,99 +42,63 @@ fn new_booth(alloc: Global) -> Result<Booth, Memory>
 }
 
 /// Takes what comes next, at most `most` bytes.
-fn take_some<S: Source>(source: &mut S, buffer: &mut [u8], most: u64) -> Result<usize, Failed>
+fn take_some<W: Way>(
+    from: &mut W::From,
+    to: &mut W::To,
+    buffer: &mut [u8],
+    most: u64,
+) -> Result<usize, Failed>
     requires room { 0 < length buffer.old }
     requires more { 0 < most }
     ensures bound { IfOk result (λ n. (n ≤ length buffer.new) × (n ≤ most)) }
-    ensures bytes { TakesFront (S.left source.old) (S.left source.new) result buffer.new }
-    ensures end { EndsWhereNothingIsLeft (S.left source.old) result }
-    ensures sound { OnOk result (S.read_faults source.new ≡ S.read_faults source.old) }
-    ensures fault { OnErr result (Rises (S.read_faults source.old) (S.read_faults source.new)) }
-    ensures other { IsAsBefore (S.written source.old) (S.written source.new)
-        (S.write_faults source.old) (S.write_faults source.new) }
-    ensures still { S.finished source.new ≡ S.finished source.old }
+    ensures bytes { TakesFront (W.left from.old to.old) (W.left from.new to.new) result buffer.new }
+    ensures end { EndsWhereNothingIsLeft (W.left from.old to.old) result }
+    ensures sound { OnOk result (W.read_faults from.new to.new ≡ W.read_faults from.old to.old) }
+    ensures fault { OnErr result (Rises (W.read_faults from.old to.old) (W.read_faults from.new to.new)) }
+    ensures other { IsAsBefore (W.written from.old to.old) (W.written from.new to.new)
+        (W.write_faults from.old to.old) (W.write_faults from.new to.new) }
+    ensures still { W.finished from.new to.new ≡ W.finished from.old to.old }
+    ensures aside { W.aside from.new to.new ≡ W.aside from.old to.old }
 {
     let offered = (buffer.len() as u64).min(most) as usize;
-    source.take(&mut buffer[..offered])
+    W::take(from, to, &mut buffer[..offered])
 }
 
-/// Serves a new link to its stop.
-fn serve_both<C: Source + Sink, H: Hearer>(
+/// Serves a new link to its stop, whichever objects it is made of.
+fn serve_ends<W: Way, H: Hearer>(
     alloc: Global,
     session: &mut Session,
     buffer: &mut [u8],
     outbox: &mut Outbox,
-    link: &mut C,
+    from: &mut W::From,
+    to: &mut W::To,
     hearer: &mut H,
 ) -> Stop
     requires new { session.old ≡ fresh CALL_LIMIT }
     requires room { 0 < length buffer.old }
     requires empty { outbox.old.bytes ≡ [] }
-    requires unfinished { C.finished link.old ≡ false }
+    requires unfinished { W.finished from.old to.old ≡ false }
     ensures heard { Heard H.tells (refuses_by H.misses H.stop_of) CALL_LIMIT hearer.old hearer.new
-        (C.left link.old) (C.left link.new) (C.written link.old) (C.written link.new) result }
-    ensures reads { ReadFaults result (C.read_faults link.old) (C.read_faults link.new) }
-    ensures writes { WriteFaults result (C.write_faults link.old) (C.write_faults link.new) }
+        (W.left from.old to.old) (W.left from.new to.new)
+        (W.written from.old to.old) (W.written from.new to.new) result }
+    ensures reads { ReadFaults result (W.read_faults from.old to.old) (W.read_faults from.new to.new) }
+    ensures writes { WriteFaults result (W.write_faults from.old to.old) (W.write_faults from.new to.new) }
     ensures same { H.same hearer.old hearer.new }
-    ensures unfinished { C.finished link.new ≡ false }
+    ensures unfinished { W.finished from.new to.new ≡ false }
+    ensures aside { W.aside from.new to.new ≡ W.aside from.old to.old }
 {
     'takes: loop {
-        match take_some(link, buffer, MOST_BYTES - session.taken()) {
+        match take_some::<W>(from, to, buffer, MOST_BYTES - session.taken()) {
             Err(Failed) => return Stop::ReadFault,
             Ok(0) => return session.end(),
             Ok(count) => {
-                if let Some(stop) = serve_take(
+                if let Some(stop) = W::serve(
                     alloc,
                     session,
                     &buffer[..count],
                     outbox,
-                    link,
-                    hearer,
-                ) {
-                    return stop;
-                }
-            }
-        }
-    }
-}
-
-/// Serves a new link whose ends are two objects to its stop.
-fn serve_pair<S: Source, K: Sink, H: Hearer>(
-    alloc: Global,
-    session: &mut Session,
-    buffer: &mut [u8],
-    outbox: &mut Outbox,
-    source: &mut S,
-    sink: &mut K,
-    hearer: &mut H,
-) -> Stop
-    requires new { session.old ≡ fresh CALL_LIMIT }
-    requires room { 0 < length buffer.old }
-    requires empty { outbox.old.bytes ≡ [] }
-    requires unfinished { K.finished sink.old ≡ false }
-    ensures heard { Heard H.tells (refuses_by H.misses H.stop_of) CALL_LIMIT hearer.old hearer.new
-        (S.left source.old) (S.left source.new) (K.written sink.old) (K.written sink.new) result }
-    ensures reads { ReadFaults result (S.read_faults source.old) (S.read_faults source.new) }
-    ensures writes { WriteFaults result (K.write_faults sink.old) (K.write_faults sink.new) }
-    ensures source_other { IsAsBefore (S.written source.old) (S.written source.new)
-        (S.write_faults source.old) (S.write_faults source.new) }
-    ensures sink_other { IsAsBefore (K.left sink.old) (K.left sink.new)
-        (K.read_faults sink.old) (K.read_faults sink.new) }
-    ensures unfinished { K.finished sink.new ≡ false }
-    ensures still { S.finished source.new ≡ S.finished source.old }
-    ensures same { H.same hearer.old hearer.new }
-{
-    'takes: loop {
-        match take_some(source, buffer, MOST_BYTES - session.taken()) {
-            Err(Failed) => return Stop::ReadFault,
-            Ok(0) => return session.end(),
-            Ok(count) => {
-                if let Some(stop) = serve_take(
-                    alloc,
-                    session,
-                    &buffer[..count],
-                    outbox,
-                    sink,
+                    from,
+                    to,
                     hearer,
                 ) {
                     return stop;
@@ -158,12 +122,13 @@ pub fn serve_link<C: Source + Sink, H: Hearer>(alloc: Global, link: &mut C, hear
     let Ok(mut booth) = new_booth(alloc) else {
         return Stop::Memory;
     };
-    serve_both(
+    serve_ends::<Joined<C>, H>(
         alloc,
         &mut booth.session,
         &mut booth.buffer,
         &mut booth.outbox,
         link,
+        &mut (),
         hearer,
     )
 }
@@ -193,7 +158,7 @@ pub fn serve_alone<S: Source, K: Sink, A: Answerer>(
     let Ok(mut booth) = new_booth(alloc) else {
         return Stop::Memory;
     };
-    serve_pair(
+    serve_ends::<Apart<S, K>, A>(
         alloc,
         &mut booth.session,
         &mut booth.buffer,

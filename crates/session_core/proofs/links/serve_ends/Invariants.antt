@@ -3,20 +3,21 @@ use Rattle.std.specs.Io.KnownBytes.{Consumes}
 use Rattle.session_core.specs.Limits.{most_bytes}
 use Rattle.session_core.specs.Sent.{sent}
 use Rattle.session_core.specs.Went.{Went, IsReady}
-use Rattle.session_core.proofs.links.serve_both.Given as goal
+use Rattle.session_core.proofs.links.serve_ends.Given as goal
 
 abbrev pub invariant-takes : goal.invariant-takes
 invariant-takes g l = record {
   fed : List ℕ;
-  consumed : Consumes (g.C.Ends.left l.initial.link) (g.C.Ends.left l.link) fed;
+  consumed : Consumes (g.W.Way.left l.initial.from l.initial.to) (g.W.Way.left l.from l.to) fed;
   went : Went g.H.Hearer.tells l.initial.session l.session fed l.initial.hearer l.hearer
-      (sent (g.C.Ends.written l.initial.link) l.initial.outbox) (sent (g.C.Ends.written l.link) l.outbox);
+      (sent (g.W.Way.written l.initial.from l.initial.to) l.initial.outbox) (sent (g.W.Way.written l.from l.to) l.outbox);
   ready : IsReady l.session;
   empty : l.outbox.bytes ≡ [];
-  reads : g.C.Ends.read_faults l.link ≡ g.C.Ends.read_faults l.initial.link;
-  writes : g.C.Ends.write_faults l.link ≡ g.C.Ends.write_faults l.initial.link;
+  reads : g.W.Way.read_faults l.from l.to ≡ g.W.Way.read_faults l.initial.from l.initial.to;
+  writes : g.W.Way.write_faults l.from l.to ≡ g.W.Way.write_faults l.initial.from l.initial.to;
+  aside : g.W.Way.aside l.from l.to ≡ g.W.Way.aside l.initial.from l.initial.to;
   same : g.H.Hearer.same l.initial.hearer l.hearer;
-  unfinished : g.C.Ends.finished l.link ≡ false;
+  unfinished : g.W.Way.finished l.from l.to ≡ false;
 }
 
 abbrev pub decreases-takes : goal.decreases-takes
