@@ -20,5 +20,5 @@ pub use definitions::Checked;
 pub use faults::NameFault;
 pub use forms::{MOST_BRACKETS, in_form};
 pub use names::{is_field_name, is_interface_name, is_member_name};
-pub use sameness::same_type;
+pub use sameness::{same_body, same_core, same_prefixes, same_type};
 pub use trees::{Body, Core, Field, Interface, Member, Named, Part, Prefix, TypeRef};

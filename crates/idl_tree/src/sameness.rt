@@ -17,8 +17,9 @@ pub fn same_type(one: &TypeRef, other: &TypeRef) -> bool
         && same_core(&one.core, &other.core)
 }
 
+/// Whether two cores are the same, as `same_type` says. It takes no memory.
 #[cycle(same)]
-fn same_core(one: &Core, other: &Core) -> bool
+pub fn same_core(one: &Core, other: &Core) -> bool
     ensures { result ≡ same_core one.now other.now }
 {
     match (one, other) {
@@ -33,8 +34,9 @@ fn same_core(one: &Core, other: &Core) -> bool
     }
 }
 
+/// Whether two bodies are the same, as `same_type` says. It takes no memory.
 #[cycle(same)]
-fn same_body(one: &Body, other: &Body) -> bool
+pub fn same_body(one: &Body, other: &Body) -> bool
     ensures { result ≡ same_body one.now other.now }
 {
     match (one, other) {
@@ -84,7 +86,8 @@ fn same_names(one: &[Named], other: &[Named]) -> bool
     true
 }
 
-fn same_prefixes(one: &[Prefix], other: &[Prefix]) -> bool
+/// Whether two lists of prefixes are equal.
+pub fn same_prefixes(one: &[Prefix], other: &[Prefix]) -> bool
     ensures { result ≡ same_prefixes one.now other.now }
 {
     if one.len() != other.len() {
