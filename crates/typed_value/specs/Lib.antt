@@ -2,7 +2,6 @@ pub mod Bodies
 pub mod Gives
 pub mod Ints
 pub mod KeyOrder
-pub mod Laws
 pub mod OfType
 pub mod Parts
 pub mod Reads

@@ -1,19 +1,23 @@
 use Rattle.std.proofs.Common.{◌≡◌, ℕ, suc, ◌<◌, List, [], ◌∷◌, length, get_or, Option, Err, None, Some, drop, refl, sym, ap, ◌∙◌, append-nil}
 use Rattle.std.proofs.Math.ListN.{drop_of_length-le}
-use Rattle.idl_tree.specs.declared.trees.Body.{out-Body}
-use Rattle.idl_tree.specs.declared.trees.Core.TheVariants.{Inline}
+use Rattle.idl_tree.specs.declared.trees.Body.{Body, out-Body}
+use Rattle.idl_tree.specs.declared.trees.Interface.{Interface}
+use Rattle.idl_tree.specs.declared.trees.Core.TheVariants.{Inline, outs-Inline}
 use Rattle.idl_tree.specs.declared.trees.Field.{Field}
 use Rattle.std.proofs.Math.Seq.{drop-cons}
 use Rattle.idl_tree.specs.Names.{Bytes}
+use Rattle.typed_value.specs.Bodies.{body_of, body_in}
 use Rattle.typed_value.specs.Gives.{GivesFields, IsOfField}
 use Rattle.typed_value.specs.declared.faults.FieldFault.{FieldFault}
 use Rattle.typed_value.specs.declared.faults.FieldFault.TheVariants as faults
 use Rattle.typed_value.specs.declared.vals.Val.{Val}
 use Rattle.typed_value.specs.declared.vals.Val.TheVariants as val
 use Rattle.typed_value.proofs.ReadsFit.{body_reads_fit}
-use Rattle.typed_value.proofs.StructBack.{in_place}
 use Rattle.typed_value.proofs.Readers.{body_is, first_is}
 use Rattle.typed_value.proofs.structs.read_fields.Goals as goal
+
+in_place : (scope : Interface) (body : Body) → body_of scope (Inline body) ≡ Some body
+in_place scope body = ap (body_in scope) (outs-Inline body)
 
 reported : (fault : FieldFault) (name : Bytes) (found : Option Val) (first : Option Bytes) → IsOfField fault name → found ≡ None → first ≡ Some name
     → GivesFields {A = Val} (Err fault) found first

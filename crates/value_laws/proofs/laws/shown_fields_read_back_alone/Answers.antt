@@ -1,7 +1,7 @@
 use Rattle.std.proofs.Common.{◌≡◌, Some, sym, ap, ◌∙◌}
 use Rattle.idl_tree.specs.Faults.{defines}
-use Rattle.typed_value.proofs.StructBack.{struct_back}
-use Rattle.typed_value.proofs.laws.shown_fields_read_back_alone.Goals as goal
+use Rattle.value_laws.proofs.StructBack.{struct_back}
+use Rattle.value_laws.proofs.laws.shown_fields_read_back_alone.Goals as goal
 
 pub returns : goal.returns
 returns c = λ scope body v w good names h fit.

@@ -1,7 +1,7 @@
 // Laws of values of types, of which other definitions and contracts can make use. The functions do nothing.
-ghost use Rattle.typed_value.specs.Laws.{ReadsBackAlone, StructReadsBackAlone, IsWholeOfType};
-ghost use Rattle.typed_value.specs.Laws.{ReadsOfType, ShowsSound, StructShowsSound};
-ghost use Rattle.typed_value.specs.Laws.{ShowsNoDeeper, StructShowsNoDeeper, ReadsNoDeeper, ShowsAsDeep};
+ghost use Rattle.value_laws.specs.Laws.{ReadsBackAlone, StructReadsBackAlone, IsWholeOfType};
+ghost use Rattle.value_laws.specs.Laws.{ReadsOfType, ShowsSound, StructShowsSound};
+ghost use Rattle.value_laws.specs.Laws.{ShowsNoDeeper, StructShowsNoDeeper, ReadsNoDeeper, ShowsAsDeep};
 
 /// The law that each value of a type reads back from the JSON tree that shows it, and no other value
 /// does: over every interface whose names are good, and every type whose names are defined there and

@@ -33,8 +33,8 @@ use Rattle.typed_value.specs.declared.vals.Val.TheOpen.{Val-F}
 use Rattle.typed_value.specs.declared.vals.Val.TheFolds.{ind-Val, fold-roll-Val}
 use Rattle.typed_value.proofs.Distinct.{bracket_split, among_split, among_last, first_true, second_true}
 use Rattle.typed_value.proofs.EntriesBack.{in_row, put_in_order}
-use Rattle.typed_value.proofs.FieldsBack.{Fresh, fresh_more, written_here, stays}
-use Rattle.typed_value.proofs.GoodBodies.{pair_of, body_layer, core_body_good}
+use Rattle.value_laws.proofs.FieldsBack.{Fresh, fresh_more, written_here, stays}
+use Rattle.value_laws.proofs.GoodBodies.{pair_of, body_layer, core_body_good}
 use Rattle.typed_value.proofs.Readers.{reader_is, struct_is}
 
 -- a tree that is not null, by its core alone

@@ -23,8 +23,8 @@ use Rattle.typed_value.specs.declared.vals.Val.{Val, out-Val, map-Val}
 use Rattle.typed_value.specs.declared.vals.Val.TheOpen.{Val-F}
 use Rattle.typed_value.specs.declared.vals.Val.TheFolds.{fold_out-Val}
 use Rattle.typed_value.proofs.Distinct.{first_true}
-use Rattle.typed_value.proofs.GoodBodies.{core_of_body}
-use Rattle.typed_value.proofs.ReadBack.{core_reader, shown_back}
+use Rattle.value_laws.proofs.GoodBodies.{core_of_body}
+use Rattle.value_laws.proofs.ReadBack.{core_reader, shown_back}
 
 module _ (scope : Interface) (body : Body) where
   pub in_place : body_of scope (Inline body) ≡ Some body

@@ -1,8 +1,8 @@
 use Rattle.std.proofs.Common.{◌≡◌, Some, sym, ap, ◌∙◌}
 use Rattle.idl_tree.specs.Faults.{defines}
-use Rattle.typed_value.proofs.GoodBodies.{type_core}
-use Rattle.typed_value.proofs.ReadBack.{shown_back}
-use Rattle.typed_value.proofs.laws.shown_values_read_back_alone.Goals as goal
+use Rattle.value_laws.proofs.GoodBodies.{type_core}
+use Rattle.value_laws.proofs.ReadBack.{shown_back}
+use Rattle.value_laws.proofs.laws.shown_values_read_back_alone.Goals as goal
 
 pub returns : goal.returns
 returns c = λ scope of v w good names fit.

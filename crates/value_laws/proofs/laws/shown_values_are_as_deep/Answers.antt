@@ -3,11 +3,11 @@ use Rattle.serde_json.specs.Data.{depth}
 use Rattle.idl_tree.specs.Faults.{defines}
 use Rattle.typed_value.specs.Shows.{Shows}
 use Rattle.typed_value.specs.Sizes.{levels_of}
-use Rattle.typed_value.proofs.GoodBodies.{type_core}
-use Rattle.typed_value.proofs.ReadBack.{shown_back}
-use Rattle.typed_value.proofs.ReadDepths.{reads_no_deeper}
-use Rattle.typed_value.proofs.ShownDepths.{shows_no_deeper}
-use Rattle.typed_value.proofs.laws.shown_values_are_as_deep.Goals as goal
+use Rattle.value_laws.proofs.GoodBodies.{type_core}
+use Rattle.value_laws.proofs.ReadBack.{shown_back}
+use Rattle.value_laws.proofs.ReadDepths.{reads_no_deeper}
+use Rattle.value_laws.proofs.ShownDepths.{shows_no_deeper}
+use Rattle.value_laws.proofs.laws.shown_values_are_as_deep.Goals as goal
 
 same : (m n : ℕ) → m ≤ n → n ≤ m → m ≡ n
 same m n below above = omega arith

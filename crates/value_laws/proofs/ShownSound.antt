@@ -26,7 +26,7 @@ use Rattle.typed_value.specs.declared.vals.Val.TheOpen.{Val-F}
 use Rattle.typed_value.specs.declared.vals.Val.TheFolds.{ind-Val, fold-roll-Val}
 use Rattle.typed_value.proofs.Distinct.{first_true, second_true}
 use Rattle.typed_value.proofs.EntriesBack.{less_is}
-use Rattle.typed_value.proofs.OrderedPuts.{put_sound, swap_less}
+use Rattle.value_laws.proofs.OrderedPuts.{put_sound, swap_less}
 
 -- ---- foreign data
 

@@ -1,5 +1,0 @@
-use Rattle.typed_value.proofs.ShownDepths.{struct_no_deeper}
-use Rattle.typed_value.proofs.laws.shown_fields_are_no_deeper.Goals as goal
-
-pub returns : goal.returns
-returns c = struct_no_deeper

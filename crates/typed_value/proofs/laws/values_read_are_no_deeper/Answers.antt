@@ -1,5 +1,0 @@
-use Rattle.typed_value.proofs.ReadDepths.{reads_no_deeper}
-use Rattle.typed_value.proofs.laws.values_read_are_no_deeper.Goals as goal
-
-pub returns : goal.returns
-returns c = λ scope of tree v reads. reads_no_deeper scope tree of.prefixes of.core v reads

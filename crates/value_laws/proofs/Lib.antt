@@ -1,0 +1,9 @@
+pub mod FieldsBack
+pub mod GoodBodies
+pub mod ReadBack
+pub mod StructBack
+pub mod WholeOfType
+pub mod OrderedPuts
+pub mod ShownDepths
+pub mod ShownSound
+pub mod ReadDepths
