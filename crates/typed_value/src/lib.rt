@@ -25,5 +25,6 @@ pub use reading::{read, read_by};
 pub use showing::{show, show_by, show_fields};
 pub use sizes::levels;
 pub use structs::read_fields;
+pub use trees::has_only_ints;
 pub use vals::Val;
 pub use weights::weight;
