@@ -6,7 +6,6 @@ use link_port::{
     SureSink, SureSource, Text, put_all,
 };
 use std::alloc::Global;
-use std::process::Abort;
 use std::test::Fail;
 
 // A value beside one that was made, where it was made.
@@ -39,17 +38,15 @@ fn plan(alloc: Global, sizes: &[u64], failing: &[u64]) -> Result<(List<u64>, Lis
     beside(numbers(alloc, sizes)?, numbers(alloc, failing))
 }
 
-// Takes through the trait alone, four bytes at most each time.
-fn check_takes<S: Source>(
-    rt: &impl Abort,
-    source: &mut S,
-    wanted: &[(Result<usize, Failed>, [u8; 4])],
-) {
+// Whether takes through the trait alone, four bytes at most each time, give this.
+fn gives<S: Source>(source: &mut S, wanted: &[(Result<usize, Failed>, [u8; 4])]) -> bool {
     let mut into = [b'-'; 4];
     for (given, bytes) in wanted {
-        assert_eq!(rt; source.take(&mut into), *given);
-        assert_eq!(rt; into, *bytes);
+        if source.take(&mut into) != *given || into != *bytes {
+            return false;
+        }
     }
+    true
 }
 
 // Puts a piece and flushes, through the trait alone.
@@ -71,8 +68,7 @@ fn mem_source(alloc: Global) -> Result<MemSource, Memory> {
 #[test]
 fn a_source_in_memory_gives_its_bytes_and_fails_as_planned(rt: HostRuntime) -> Result<(), Fail> {
     let mut source = mem_source(rt.alloc())?;
-    check_takes(
-        &rt,
+    let given = gives(
         &mut source,
         &[
             (Ok(2), *b"ab--"),
@@ -82,6 +78,8 @@ fn a_source_in_memory_gives_its_bytes_and_fails_as_planned(rt: HostRuntime) -> R
             (Ok(0), *b"def-"),
         ],
     );
+    drop(source);
+    assert!(rt; given);
     Ok(())
 }
 
@@ -92,30 +90,40 @@ fn mem_sink(alloc: Global) -> Result<MemSink, Memory>
     MemSink::new(alloc, 5, sizes, failing)
 }
 
+// Whether the sink keeps what it takes, and fails as planned.
+fn keeps(sink: &mut MemSink) -> bool
+    requires { sink.old.finished ≡ false }
+{
+    let one = put_and_flush(sink, b"abcd") == (Ok(()), Err(Failed));
+    let other = put_and_flush(sink, b"xyz") == (Err(Short { written: 1 }), Ok(()));
+    one && other && sink.finish() == Ok(()) && sink.bytes() == b"abcdx".as_slice()
+}
+
 #[test]
 fn a_sink_in_memory_keeps_its_bytes_and_fails_as_planned(rt: HostRuntime) -> Result<(), Fail> {
     let mut sink = mem_sink(rt.alloc())?;
-    assert_eq!(rt; put_and_flush(&mut sink, b"abcd"), (Ok(()), Err(Failed)));
-    assert_eq!(rt;
-        put_and_flush(&mut sink, b"xyz"),
-        (Err(Short { written: 1 }), Ok(()))
-    );
-    assert_eq!(rt; sink.finish(), Ok(()));
-    assert_eq!(rt; sink.bytes(), b"abcdx".as_slice());
+    let kept = keeps(&mut sink);
+    drop(sink);
+    assert!(rt; kept);
     Ok(())
+}
+
+// Whether a sink that never fails takes and finishes.
+fn takes_all(sink: &mut SureSink) -> bool
+    requires { sink.old ≡ false }
+{
+    put_and_flush(sink, b"abc") == (Ok(()), Ok(())) && sink.finish() == Ok(())
 }
 
 #[test]
 fn a_sure_source_and_a_sure_sink_never_fail(rt: HostRuntime) -> Result<(), Fail> {
     let mut source = SureSource::new(rt.alloc(), bytes(rt.alloc(), "abcde")?)?;
-    check_takes(
-        &rt,
+    let given = gives(
         &mut source,
         &[(Ok(4), *b"abcd"), (Ok(1), *b"ebcd"), (Ok(0), *b"ebcd")],
     );
-    let mut sink = SureSink::new();
-    assert_eq!(rt; put_and_flush(&mut sink, b"abc"), (Ok(()), Ok(())));
-    assert_eq!(rt; sink.finish(), Ok(()));
+    drop(source);
+    assert!(rt; given && takes_all(&mut SureSink::new()));
     Ok(())
 }
 
@@ -138,18 +146,35 @@ fn read_length<F: Files>(
     Ok(content.len())
 }
 
+// Whether reads in a row give this: the length, or the fault.
+fn reads(
+    files: &mut MemFiles,
+    alloc: Global,
+    wanted: &[(&str, u64, Result<u64, FileFault>)],
+) -> bool {
+    for (path, most, length) in wanted {
+        if read_length(files, alloc, path, *most) != *length {
+            return false;
+        }
+    }
+    true
+}
+
 #[test]
 fn files_in_memory_are_read_whole_and_fail_as_planned(rt: HostRuntime) -> Result<(), Fail> {
     let alloc = rt.alloc();
     let mut files = mem_files(alloc)?;
-    let wanted = [
-        ("one", 3, Ok(3)),
-        ("one", 2, Err(FileFault::TooLong)),
-        ("one", 3, Err(FileFault::Failed)),
-        ("two", 3, Err(FileFault::Failed)),
-    ];
-    for (path, most, length) in wanted {
-        assert_eq!(rt; read_length(&mut files, alloc, path, most), length);
-    }
+    let read = reads(
+        &mut files,
+        alloc,
+        &[
+            ("one", 3, Ok(3)),
+            ("one", 2, Err(FileFault::TooLong)),
+            ("one", 3, Err(FileFault::Failed)),
+            ("two", 3, Err(FileFault::Failed)),
+        ],
+    );
+    drop(files);
+    assert!(rt; read);
     Ok(())
 }
