@@ -1,0 +1,2 @@
+pub mod AddressParts
+pub mod AddressLaws
