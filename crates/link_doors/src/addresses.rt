@@ -1,7 +1,8 @@
 // The addresses at which services are found.
 ghost use Rattle.std.specs.Prelude.{◌≡◌, ◌<◌, IfOk};
 ghost use Rattle.link_doors.specs.Addresses.{GivesAddress, AddressesAre, AddressesReadBack};
-ghost use Rattle.link_doors.specs.Addresses.{address_of, address_text, path_of, tcp_of, octets_of, port_of, before, behind};
+ghost use Rattle.link_doors.specs.Addresses.{address_of, address_text, path_of, tcp_of};
+ghost use Rattle.link_doors.specs.Addresses.{octets_of, port_of, before, behind};
 
 use link_port::{Memory, Text};
 use std::alloc::Global;

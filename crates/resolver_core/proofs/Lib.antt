@@ -1,0 +1,5 @@
+pub mod AtDots
+pub mod Reading
+pub mod Listed
+pub mod DotLaws
+pub mod Lasts
