@@ -1,0 +1,160 @@
+// A sheet by names, before its types are looked at.
+use call_form::Raw;
+use link_port::{Box, List, Text, Value};
+
+/// A sheet as its JSON text has it: types, registers, methods and errors are names still.
+#[derive(Drop)]
+pub struct SheetDraft {
+    /// Who made the service.
+    pub info: Info,
+    /// The texts of the definitions, in order.
+    pub interfaces: List<Text>,
+    /// The registers in order. Their names are field names, and each stands once.
+    pub registers: List<RegisterDraft>,
+    /// The rules in the byte order of their names, each name once.
+    pub rules: List<RuleDraft>,
+}
+
+/// Who made the service (varlink.org, "Service", the reply to `GetInfo`).
+#[derive(Drop)]
+pub struct Info {
+    /// The vendor.
+    pub vendor: Text,
+    /// The product.
+    pub product: Text,
+    /// The version.
+    pub version: Text,
+    /// Where more is told.
+    pub url: Text,
+}
+
+/// A register.
+#[derive(Drop)]
+pub struct RegisterDraft {
+    /// Its name.
+    pub name: Text,
+    /// The name of the interface whose types its type may name.
+    pub scope: Text,
+    /// The text of its type.
+    pub of: Text,
+    /// The JSON of its first value.
+    pub initial: Value,
+}
+
+/// What is done for the calls of one method.
+#[derive(Drop)]
+pub struct RuleDraft {
+    /// The qualified name of the method.
+    pub name: Text,
+    /// What stands before its last `.`.
+    pub interface: Text,
+    /// What stands behind its last `.`.
+    pub method: Text,
+    /// The branches in order, at least one. The last has no condition, and each other has one.
+    pub branches: List<BranchDraft>,
+}
+
+/// What is done where a condition holds.
+#[derive(Drop)]
+pub struct BranchDraft {
+    /// The condition; without one the branch is taken always.
+    pub when: Option<CondDraft>,
+    /// The guards in order.
+    pub guards: List<GuardDraft>,
+    /// The steps in order.
+    pub steps: List<ActionDraft>,
+    /// The outcome.
+    pub outcome: EndingDraft,
+}
+
+/// A guard: where its condition doesn't hold, the call is refused.
+#[derive(Drop)]
+pub struct GuardDraft {
+    /// What has to hold.
+    pub need: CondDraft,
+    /// The name of the error, in the method's interface.
+    pub error: Text,
+    /// The error's parameters.
+    pub with: ExprDraft,
+}
+
+/// A step: one register changes.
+#[derive(Drop)]
+pub enum ActionDraft {
+    /// The register of this name becomes the value.
+    Set(Text, ExprDraft),
+    /// The value is added at the end of this register.
+    Push(Text, ExprDraft),
+    /// In this register the key, the first expression, gets the value, the second one.
+    Put(Text, ExprDraft, ExprDraft),
+    /// From this register the key is taken.
+    Drop(Text, ExprDraft),
+}
+
+/// What a call is answered with.
+#[derive(Drop)]
+pub enum EndingDraft {
+    /// One reply.
+    Reply(ExprDraft),
+    /// A reply for each item, and a last one.
+    Stream {
+        /// The array.
+        over: RefDraft,
+        /// The reply for an item.
+        each: ExprDraft,
+        /// The last reply.
+        last: ExprDraft,
+    },
+    /// One reply, and then the connection is for other bytes.
+    Upgrade {
+        /// What is done with the bytes.
+        raw: Raw,
+        /// The reply.
+        reply: ExprDraft,
+    },
+}
+
+/// A condition.
+#[derive(Drop)]
+pub enum CondDraft {
+    /// The values are equal.
+    Equal(RefDraft, ExprDraft),
+    /// The first number is less than the second.
+    Less(ExprDraft, ExprDraft),
+    /// The value is not `null`.
+    Present(RefDraft),
+    /// The map has the key.
+    Has(RefDraft, ExprDraft),
+    /// The condition does not hold.
+    Not(Box<CondDraft>),
+}
+
+/// What gives a value.
+#[derive(Drop)]
+pub enum ExprDraft {
+    /// The value that is found there.
+    From(RefDraft),
+    /// The value that this JSON is.
+    Const(Value),
+    /// A struct of these members, in the byte order of their names, each name once.
+    Struct(List<(Text, ExprDraft)>),
+    /// An array of these items.
+    Items(List<ExprDraft>),
+    /// A sum.
+    Sum(Box<ExprDraft>, Box<ExprDraft>),
+    /// The number of items or keys.
+    Length(RefDraft),
+    /// The value of a map at the first expression, and where the key isn't there, the second one.
+    At(RefDraft, Box<ExprDraft>, Box<ExprDraft>),
+}
+
+/// Where a value is found: a path of names, each of which leads from a struct to its field.
+#[derive(Drop)]
+pub enum RefDraft {
+    /// From the method's parameters on; at least one name.
+    Param(List<Text>),
+    /// From the register of the first name on; at least one name.
+    Register(List<Text>),
+    /// From the stream's item on.
+    Item(List<Text>),
+}

@@ -1,0 +1,32 @@
+//! Sheets of a service, read from JSON (RFC 8259) by names: the form of a sheet, and where a text leaves
+//! it first.
+#![tactic(auto)]
+
+mod branches;
+mod conditions;
+mod drafts;
+mod expressions;
+mod faults;
+mod forms;
+mod members;
+mod names;
+mod outcomes;
+mod outlines;
+mod places;
+mod references;
+mod registers;
+mod rules;
+mod sheets;
+mod steps;
+mod texts;
+
+pub use drafts::{
+    ActionDraft, BranchDraft, CondDraft, EndingDraft, ExprDraft, GuardDraft, Info, RefDraft,
+    RegisterDraft, RuleDraft, SheetDraft,
+};
+pub use faults::DraftFault;
+pub use places::{Place, Spot};
+pub use sheets::read;
+
+/// The greatest length of a sheet's text, in bytes, that is read from a file.
+pub const SHEET_LIMIT: u64 = 16_777_216;

@@ -1,0 +1,5 @@
+pub mod Folded
+pub mod KeysRise
+pub mod Lengths
+pub mod Naming
+pub mod Opened
