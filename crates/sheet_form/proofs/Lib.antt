@@ -1,0 +1,4 @@
+pub mod After
+pub mod MadeGives
+pub mod Opens
+pub mod Typed

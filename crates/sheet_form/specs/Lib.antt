@@ -1,0 +1,4 @@
+pub mod Expressions
+pub mod Forms
+pub mod Laws
+pub mod References
