@@ -1,3 +1,4 @@
+pub mod Faults
 pub mod Follows
 pub mod FollowsType
 pub mod Refuses

@@ -39,6 +39,11 @@ impl From<Memory> for IdlFault {
 }
 
 impl fmt::Display for IdlFault {
+    ghost use Rattle.idl_grammar.specs.Faults.{fault_text};
+
+    ghost output = { fault_text ⟦<TokenFault as fmt::Display>⟧.output
+        ⟦<NameFault as fmt::Display>⟧.output };
+
     fn fmt<W: fmt::Write>(&self, f: &mut fmt::Formatter<W>) -> fmt::Result {
         match self {
             IdlFault::Token(fault) => write!(f, "{fault}"),

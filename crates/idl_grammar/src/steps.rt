@@ -70,9 +70,10 @@ pub fn read_plain(alloc: Global, state: State, item: &Item<'_>, most: u64) -> Re
 }
 
 /// Lets go of what was read, with which the item does not go on.
-pub fn stray<T: Drop, R>(_left: T) -> Result<R, Stop>
+pub fn stray<T: Drop, R>(left: T) -> Result<R, Stop>
     ensures { result ≡ Err stop.Stray }
 {
+    drop(left);
     Err(Stop::Stray)
 }
 

@@ -223,8 +223,9 @@ fn only_type(fields: List<Field>) -> Option<TypeRef>
 }
 
 // Lets go of what was read, which is no whole type.
-fn no_type<T: Drop>(_left: T) -> Option<TypeRef>
+fn no_type<T: Drop>(left: T) -> Option<TypeRef>
     ensures { result ≡ None }
 {
+    drop(left);
     None
 }

@@ -35,6 +35,11 @@ impl From<Memory> for PrintFault {
 }
 
 impl fmt::Display for PrintFault {
+    ghost use Rattle.std.specs.Prelude.{Some};
+    ghost use Rattle.idl_print.specs.Faults.{fault_text};
+
+    ghost output = { λ fault. Some (fault_text fault) };
+
     fn fmt<W: fmt::Write>(&self, f: &mut fmt::Formatter<W>) -> fmt::Result {
         match self {
             PrintFault::Short(short) => write!(f, "cut off after {} bytes", short.written),

@@ -48,6 +48,11 @@ impl From<Memory> for TokenFault {
 }
 
 impl fmt::Display for TokenFault {
+    ghost use Rattle.std.specs.Prelude.{Some};
+    ghost use Rattle.idl_token.specs.Faults.{fault_text};
+
+    ghost output = { λ fault. Some (fault_text fault) };
+
     fn fmt<W: fmt::Write>(&self, f: &mut fmt::Formatter<W>) -> fmt::Result {
         match self {
             TokenFault::NotUtf8 { at } => write!(f, "not UTF-8 at {at}"),

@@ -1,4 +1,5 @@
 pub mod Checks
+pub mod FaultTexts
 pub mod Faults
 pub mod Floats
 pub mod Form

@@ -1,4 +1,7 @@
 // Why the names of a tree are refused.
+ghost use Rattle.std.specs.Fmt.{WritesOnOk};
+ghost use Rattle.idl_tree.specs.FaultTexts.{told};
+
 use link_port::{Memory, Text};
 use std::error::Error;
 use std::fmt;
@@ -32,6 +35,11 @@ impl From<Memory> for NameFault {
 }
 
 impl fmt::Display for NameFault {
+    ghost use Rattle.std.specs.Prelude.{Some};
+    ghost use Rattle.idl_tree.specs.FaultTexts.{fault_text};
+
+    ghost output = { λ fault. Some (fault_text fault) };
+
     fn fmt<W: fmt::Write>(&self, f: &mut fmt::Formatter<W>) -> fmt::Result {
         match self {
             NameFault::TwiceType(name) => tell(f, "type", name, "stands twice"),
@@ -52,6 +60,8 @@ fn tell<W: fmt::Write>(
     kind: &str,
     name: &Text,
     wrong: &str,
-) -> fmt::Result {
+) -> fmt::Result
+    ensures { WritesOnOk W.write_str_gives f.old result (told kind.now name.now wrong.now) f.new }
+{
     write!(f, "{kind} {} {wrong}", name.as_str())
 }
