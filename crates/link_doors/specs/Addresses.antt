@@ -89,3 +89,8 @@ abbrev pub GivesAddress : Option Address → Result Address AddressFault → Typ
 GivesAddress there (Ok address) = there ≡ Some address
 GivesAddress there (Err BadAddress) = there ≡ None
 GivesAddress there (Err Memory) = ⊤
+
+-- how a fault is told
+abbrev pub fault_text : AddressFault → List ℕ
+fault_text BadAddress = codes "bad address"
+fault_text Memory = codes "out of memory"

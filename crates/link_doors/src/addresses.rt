@@ -45,6 +45,11 @@ impl From<Memory> for AddressFault {
 }
 
 impl fmt::Display for AddressFault {
+    ghost use Rattle.std.specs.Prelude.{Some};
+    ghost use Rattle.link_doors.specs.Addresses.{fault_text};
+
+    ghost output = { λ fault. Some (fault_text fault) };
+
     fn fmt<W: fmt::Write>(&self, f: &mut fmt::Formatter<W>) -> fmt::Result {
         match self {
             AddressFault::BadAddress => f.write_str("bad address"),

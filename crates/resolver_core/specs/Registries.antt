@@ -1,6 +1,6 @@
 -- What a registry holds, and how its file is read: a JSON object (RFC 8259) from interface names to the texts of
 -- addresses.
-use Rattle.std.specs.Prelude.{◌≡◌, ◌==◌, ◌&&◌, ◌||◌, ℕ, Bool, not, List, [], ◌∷◌, map, length, Option, Some, None, Result, Ok, Err}
+use Rattle.std.specs.Prelude.{◌≡◌, ◌==◌, ◌++◌, ◌&&◌, ◌||◌, ℕ, Bool, not, List, [], ◌∷◌, map, length, Option, Some, None, Result, Ok, Err}
 use Rattle.std.specs.Prelude.{codes, if◌then◌else◌, option_and_then, ⊤}
 use Rattle.std.specs.Str.{bytes_eq}
 use Rattle.std.specs.Str.Lossy.{utf8_valid_len}
@@ -96,3 +96,11 @@ abbrev pub Reads : {A : Type 0} → Result A RegistryFault → Result A Registry
 Reads there (Ok x) = there ≡ Ok x
 Reads there (Err Memory) = ⊤
 Reads there (Err fault) = there ≡ Err fault
+
+-- how a fault is told
+abbrev pub fault_text : RegistryFault → List ℕ
+fault_text NotJson = codes "not JSON"
+fault_text NotObject = codes "not an object"
+fault_text (BadName name) = codes "bad name " ++ name
+fault_text (BadAddress name) = codes "bad address of " ++ name
+fault_text Memory = codes "out of memory"

@@ -31,6 +31,11 @@ impl From<Memory> for RegistryFault {
 }
 
 impl fmt::Display for RegistryFault {
+    ghost use Rattle.std.specs.Prelude.{Some};
+    ghost use Rattle.resolver_core.specs.Registries.{fault_text};
+
+    ghost output = { λ fault. Some (fault_text fault) };
+
     fn fmt<W: fmt::Write>(&self, f: &mut fmt::Formatter<W>) -> fmt::Result {
         match self {
             RegistryFault::NotJson => f.write_str("not JSON"),
