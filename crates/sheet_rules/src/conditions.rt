@@ -85,7 +85,8 @@ fn gives_error(error: &str, expr: &Expr, standing: &Standing<'_>) -> bool
     }
 }
 
-fn error_body<'x>(error: &str, interfaces: &'x [Checked], scope: u64) -> Option<&'x Body>
+/// The parameters of an error of the interface at a place.
+pub fn error_body<'x>(error: &str, interfaces: &'x [Checked], scope: u64) -> Option<&'x Body>
     ensures { option_copied result
         ≡ option_and_then (error_named error.now) (slice_get interfaces.now scope) }
 {

@@ -16,7 +16,7 @@ mod types;
 mod values;
 
 pub use actions::{action_is_typed, array_register, map_register};
-pub use conditions::{cond_is_typed, gives_int, gives_string, guard_is_typed};
+pub use conditions::{cond_is_typed, error_body, gives_int, gives_string, guard_is_typed};
 pub use expressions::gives;
 pub use forms::{Action, Branch, Cond, Ending, Expr, Guard, Ref, Register, Rule};
 pub use outcomes::{ending_is_typed, gives_reply, items_of, same_kind, with_item};

@@ -13,7 +13,7 @@ pub fn has_name(kind: &Kind<'_>) -> bool
     ensures { result ≡ core_has_name (core_of kind.now) }
 {
     match kind {
-        Kind::Core(core) => core_has_name(core),
+        Kind::Used(_, core) => core_has_name(core),
         Kind::Body(body) => body_has_name(body),
         Kind::Int => false,
         Kind::Str => false,

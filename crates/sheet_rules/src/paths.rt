@@ -8,7 +8,7 @@ ghost use Rattle.sheet_rules.specs.declared.forms.Ref.TheVariants.{Param};
 
 use crate::forms::{Ref, Register};
 use crate::standings::Standing;
-use crate::types::{Typ, body_typ, type_in};
+use crate::types::{Typ, body_typ, prefixes_of, type_in};
 use crate::values::kind_body;
 use idl_tree::{Body, Checked, Field};
 
@@ -16,7 +16,7 @@ use idl_tree::{Body, Checked, Field};
 pub fn typ_body<'x>(interfaces: &'x [Checked], of: &Typ<'x>) -> Option<&'x Body>
     ensures { option_copied result ≡ typ_body interfaces.now (typ_of of.now) }
 {
-    if !of.prefixes.is_empty() {
+    if !prefixes_of(&of.kind).is_empty() {
         return None;
     }
     match interfaces.get(of.scope as usize) {

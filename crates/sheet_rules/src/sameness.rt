@@ -6,7 +6,7 @@ ghost use Rattle.sheet_rules.specs.Types.{same_typ, fits_typ};
 ghost use Rattle.sheet_rules.specs.Views.{typ_of, core_of};
 
 use crate::names::has_name;
-use crate::types::{Kind, Typ, maybe_part};
+use crate::types::{Kind, Typ, maybe_part, prefixes_of};
 use idl_tree::{Body, Core, same_body, same_core, same_prefixes};
 
 /// Whether two types are the same: their prefixes and cores agree, notes not counted, and where the name
@@ -14,7 +14,7 @@ use idl_tree::{Body, Core, same_body, same_core, same_prefixes};
 pub fn same(one: &Typ<'_>, other: &Typ<'_>) -> bool
     ensures { result ≡ same_typ (typ_of one.now) (typ_of other.now) }
 {
-    same_prefixes(one.prefixes, other.prefixes)
+    same_prefixes(prefixes_of(&one.kind), prefixes_of(&other.kind))
         && same_kind(&one.kind, &other.kind)
         && (one.scope == other.scope || !has_name(&one.kind))
 }
@@ -36,14 +36,14 @@ fn same_kind(one: &Kind<'_>, other: &Kind<'_>) -> bool
     ensures { result ≡ same_core (core_of one.now) (core_of other.now) }
 {
     match (one, other) {
-        (Kind::Core(a), Kind::Core(b)) => same_core(a, b),
-        (Kind::Core(a), Kind::Body(b)) => is_body(a, b),
-        (Kind::Core(a), Kind::Int) => matches!(a, Core::Int),
-        (Kind::Core(a), Kind::Str) => matches!(a, Core::Str),
-        (Kind::Body(a), Kind::Core(b)) => body_is(a, b),
+        (Kind::Used(_, a), Kind::Used(_, b)) => same_core(a, b),
+        (Kind::Used(_, a), Kind::Body(b)) => is_body(a, b),
+        (Kind::Used(_, a), Kind::Int) => matches!(a, Core::Int),
+        (Kind::Used(_, a), Kind::Str) => matches!(a, Core::Str),
+        (Kind::Body(a), Kind::Used(_, b)) => body_is(a, b),
         (Kind::Body(a), Kind::Body(b)) => same_body(a, b),
-        (Kind::Int, Kind::Core(b)) => matches!(b, Core::Int),
-        (Kind::Str, Kind::Core(b)) => matches!(b, Core::Str),
+        (Kind::Int, Kind::Used(_, b)) => matches!(b, Core::Int),
+        (Kind::Str, Kind::Used(_, b)) => matches!(b, Core::Str),
         (Kind::Int, Kind::Int) => true,
         (Kind::Str, Kind::Str) => true,
         _ => false,

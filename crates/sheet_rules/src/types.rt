@@ -1,8 +1,8 @@
-// Types as rules meet them: prefixes and what stands behind them, with the place of the interface that their
-// names belong to.
-ghost use Rattle.std.specs.Prelude.{◌≡◌, [], option_map};
-ghost use Rattle.sheet_rules.specs.Types.{array_part, map_part, maybe_part, without_maybe, is_int_typ, is_int_core, int_typ, string_typ, body_typ, type_in, behind, behind_maybe};
-ghost use Rattle.sheet_rules.specs.Views.{typ_of, core_of};
+// Types as rules meet them, with the place of the interface that their names belong to.
+ghost use Rattle.std.specs.Prelude.{◌≡◌, option_map};
+ghost use Rattle.std.specs.Option.{option_copied};
+ghost use Rattle.sheet_rules.specs.Types.{array_part, map_part, maybe_part, without_maybe, is_int_typ, is_int_core, int_typ, string_typ, body_typ, type_in, behind_maybe, after_array, after_map, after_maybe};
+ghost use Rattle.sheet_rules.specs.Views.{typ_of, prefixes_of, core_of};
 
 use idl_tree::{Body, Core, Prefix, TypeRef};
 
@@ -11,17 +11,15 @@ use idl_tree::{Body, Core, Prefix, TypeRef};
 pub struct Typ<'x> {
     /// The place, among the sheet's interfaces, of the one that its names belong to.
     pub scope: u64,
-    /// What stands before the core.
-    pub prefixes: &'x [Prefix],
-    /// What stands behind the prefixes.
+    /// What it is there.
     pub kind: Kind<'x>,
 }
 
-/// What stands behind the prefixes of a type.
+/// What a type is.
 #[derive(Clone, Copy)]
 pub enum Kind<'x> {
-    /// The core of a type in use.
-    Core(&'x Core),
+    /// A type in use: its prefixes, and the core behind them.
+    Used(&'x [Prefix], &'x Core),
     /// The body of a method or an error, as a type in place.
     Body(&'x Body),
     /// `int`.
@@ -36,8 +34,7 @@ pub fn type_in<'x>(scope: u64, of: &'x TypeRef) -> Typ<'x>
 {
     Typ {
         scope,
-        prefixes: of.prefixes.as_slice(),
-        kind: Kind::Core(&of.core),
+        kind: Kind::Used(of.prefixes.as_slice(), &of.core),
     }
 }
 
@@ -45,30 +42,41 @@ pub fn type_in<'x>(scope: u64, of: &'x TypeRef) -> Typ<'x>
 pub fn body_typ<'x>(scope: u64, body: &'x Body) -> Typ<'x>
     ensures { typ_of result ≡ body_typ scope body.now }
 {
-    plain(scope, Kind::Body(body))
+    Typ {
+        scope,
+        kind: Kind::Body(body),
+    }
 }
 
 /// The type `int`.
 pub fn int_typ<'x>(scope: u64) -> Typ<'x>
     ensures { typ_of result ≡ int_typ scope }
 {
-    plain(scope, Kind::Int)
+    Typ {
+        scope,
+        kind: Kind::Int,
+    }
 }
 
 /// The type `string`.
 pub fn string_typ<'x>(scope: u64) -> Typ<'x>
     ensures { typ_of result ≡ string_typ scope }
 {
-    plain(scope, Kind::Str)
-}
-
-fn plain<'x>(scope: u64, kind: Kind<'x>) -> Typ<'x>
-    ensures { typ_of result ≡ record { scope = scope; prefixes = []; core = core_of kind.entry } }
-{
     Typ {
         scope,
-        prefixes: &[],
-        kind,
+        kind: Kind::Str,
+    }
+}
+
+/// What stands before the core of a type.
+pub fn prefixes_of<'x>(kind: &Kind<'x>) -> &'x [Prefix]
+    ensures { result.now ≡ prefixes_of kind.now }
+{
+    match kind {
+        Kind::Used(prefixes, _) => prefixes,
+        Kind::Body(_) => &[],
+        Kind::Int => &[],
+        Kind::Str => &[],
     }
 }
 
@@ -76,7 +84,7 @@ fn plain<'x>(scope: u64, kind: Kind<'x>) -> Typ<'x>
 pub fn is_int(of: &Typ<'_>) -> bool
     ensures { result ≡ is_int_typ (typ_of of.now) }
 {
-    of.prefixes.is_empty() && is_int_kind(&of.kind)
+    prefixes_of(&of.kind).is_empty() && is_int_kind(&of.kind)
 }
 
 /// Whether it is `int`, as what stands behind prefixes.
@@ -84,7 +92,7 @@ pub fn is_int_kind(kind: &Kind<'_>) -> bool
     ensures { result ≡ is_int_core (core_of kind.now) }
 {
     match kind {
-        Kind::Core(core) => matches!(core, Core::Int),
+        Kind::Used(_, core) => matches!(core, Core::Int),
         Kind::Body(_) => false,
         Kind::Int => true,
         Kind::Str => false,
@@ -95,9 +103,11 @@ pub fn is_int_kind(kind: &Kind<'_>) -> bool
 pub fn without_maybe<'x>(of: &Typ<'x>) -> Typ<'x>
     ensures { typ_of result ≡ without_maybe (typ_of of.now) }
 {
-    match of.prefixes {
-        [Prefix::Maybe, rest @ ..] => behind(of, rest),
-        prefixes => behind(of, prefixes),
+    match of.kind {
+        Kind::Used(prefixes, core) => used(of.scope, behind_maybe(prefixes), core),
+        Kind::Body(body) => body_typ(of.scope, body),
+        Kind::Int => int_typ(of.scope),
+        Kind::Str => string_typ(of.scope),
     }
 }
 
@@ -105,9 +115,14 @@ pub fn without_maybe<'x>(of: &Typ<'x>) -> Typ<'x>
 pub fn array_part<'x>(of: &Typ<'x>) -> Option<Typ<'x>>
     ensures { option_map typ_of result ≡ array_part (typ_of of.now) }
 {
-    match of.prefixes {
-        [Prefix::Array, rest @ ..] => Some(behind(of, rest)),
-        _ => None,
+    match of.kind {
+        Kind::Used(prefixes, core) => match after_array(prefixes) {
+            Some(rest) => Some(used(of.scope, rest, core)),
+            None => None,
+        },
+        Kind::Body(_) => None,
+        Kind::Int => None,
+        Kind::Str => None,
     }
 }
 
@@ -115,9 +130,14 @@ pub fn array_part<'x>(of: &Typ<'x>) -> Option<Typ<'x>>
 pub fn map_part<'x>(of: &Typ<'x>) -> Option<Typ<'x>>
     ensures { option_map typ_of result ≡ map_part (typ_of of.now) }
 {
-    match of.prefixes {
-        [Prefix::Map, rest @ ..] => Some(behind(of, rest)),
-        _ => None,
+    match of.kind {
+        Kind::Used(prefixes, core) => match after_map(prefixes) {
+            Some(rest) => Some(used(of.scope, rest, core)),
+            None => None,
+        },
+        Kind::Body(_) => None,
+        Kind::Int => None,
+        Kind::Str => None,
     }
 }
 
@@ -125,18 +145,58 @@ pub fn map_part<'x>(of: &Typ<'x>) -> Option<Typ<'x>>
 pub fn maybe_part<'x>(of: &Typ<'x>) -> Option<Typ<'x>>
     ensures { option_map typ_of result ≡ maybe_part (typ_of of.now) }
 {
-    match of.prefixes {
-        [Prefix::Maybe, rest @ ..] => Some(behind(of, rest)),
+    match of.kind {
+        Kind::Used(prefixes, core) => match after_maybe(prefixes) {
+            Some(rest) => Some(used(of.scope, rest, core)),
+            None => None,
+        },
+        Kind::Body(_) => None,
+        Kind::Int => None,
+        Kind::Str => None,
+    }
+}
+
+fn used<'x>(scope: u64, prefixes: &'x [Prefix], core: &'x Core) -> Typ<'x>
+    ensures { typ_of result ≡ record { scope = scope; prefixes = prefixes.now; core = core.now } }
+{
+    Typ {
+        scope,
+        kind: Kind::Used(prefixes, core),
+    }
+}
+
+fn behind_maybe(prefixes: &[Prefix]) -> &[Prefix]
+    ensures { result.now ≡ behind_maybe prefixes.now }
+{
+    match prefixes {
+        [Prefix::Maybe, rest @ ..] => rest,
+        all => all,
+    }
+}
+
+fn after_array(prefixes: &[Prefix]) -> Option<&[Prefix]>
+    ensures { option_copied result ≡ after_array prefixes.now }
+{
+    match prefixes {
+        [Prefix::Array, rest @ ..] => Some(rest),
         _ => None,
     }
 }
 
-fn behind<'x>(of: &Typ<'x>, prefixes: &'x [Prefix]) -> Typ<'x>
-    ensures { typ_of result ≡ behind (typ_of of.now) prefixes.now }
+fn after_map(prefixes: &[Prefix]) -> Option<&[Prefix]>
+    ensures { option_copied result ≡ after_map prefixes.now }
 {
-    Typ {
-        scope: of.scope,
-        prefixes,
-        kind: of.kind,
+    match prefixes {
+        [Prefix::Map, rest @ ..] => Some(rest),
+        _ => None,
+    }
+}
+
+fn after_maybe(prefixes: &[Prefix]) -> Option<&[Prefix]>
+    ensures { option_copied result ≡ after_maybe prefixes.now }
+{
+    match prefixes {
+        [Prefix::Maybe, rest @ ..] => Some(rest),
+        _ => None,
     }
 }

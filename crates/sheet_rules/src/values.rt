@@ -13,7 +13,7 @@ ghost use Rattle.typed_value.specs.declared.vals.Val.{Val};
 ghost use Rattle.sheet_rules.specs.Types.{is_of_typ, is_before_next, map_fits};
 ghost use Rattle.sheet_rules.specs.Views.{typ_of, core_of};
 
-use crate::types::{Kind, Typ, is_int_kind};
+use crate::types::{Kind, Typ, is_int_kind, prefixes_of};
 use idl_tree::{Body, Checked, Core, Field, Prefix};
 use link_port::{Text, Value};
 use typed_value::{Val, begins_with_maybe, behind_maybes, body_of, has_only_ints, names_of};
@@ -23,11 +23,12 @@ pub fn is_of_typ<'x>(value: &Val, interfaces: &'x [Checked], of: &Typ<'x>) -> bo
     ensures { result ≡ is_of_typ interfaces.now (typ_of of.now) value.now }
 {
     match interfaces.get(of.scope as usize) {
-        Some(scope) => is_of(value, scope, of.prefixes, &of.kind),
+        Some(scope) => is_of(value, scope, prefixes_of(&of.kind), &of.kind),
         None => false,
     }
 }
 
+// What stands before the core is told apart, since it is taken off from its front.
 #[cycle(values)]
 fn is_of<'x>(value: &Val, scope: &'x Checked, prefixes: &'x [Prefix], kind: &Kind<'x>) -> bool
     ensures { result ≡ fits scope.now value.now prefixes.now (core_of kind.now) }
@@ -143,7 +144,8 @@ fn fields_are_of<'x>(values: &[Val], scope: &'x Checked, fields: &'x [Field]) ->
     }
     for (i, value) in values.iter().enumerate() {
         let of = &fields[i].of;
-        if !is_of(value, scope, of.prefixes.as_slice(), &Kind::Core(&of.core)) {
+        let prefixes = of.prefixes.as_slice();
+        if !is_of(value, scope, prefixes, &Kind::Used(prefixes, &of.core)) {
             return false;
         }
     }
@@ -155,7 +157,7 @@ pub fn kind_body<'x>(scope: &'x Checked, kind: &Kind<'x>) -> Option<&'x Body>
     ensures { option_copied result ≡ body_of scope.now (core_of kind.now) }
 {
     match kind {
-        Kind::Core(core) => body_of(scope, core),
+        Kind::Used(_, core) => body_of(scope, core),
         Kind::Body(body) => Some(body),
         Kind::Int => None,
         Kind::Str => None,
@@ -210,7 +212,7 @@ fn is_bool_kind(kind: &Kind<'_>) -> bool
     ensures { result ≡ is_bool (out-Core (core_of kind.now)) }
 {
     match kind {
-        Kind::Core(core) => matches!(core, Core::Bool),
+        Kind::Used(_, core) => matches!(core, Core::Bool),
         Kind::Body(_) => false,
         Kind::Int => false,
         Kind::Str => false,
@@ -221,7 +223,7 @@ fn is_string_kind(kind: &Kind<'_>) -> bool
     ensures { result ≡ is_text (out-Core (core_of kind.now)) }
 {
     match kind {
-        Kind::Core(core) => matches!(core, Core::Str),
+        Kind::Used(_, core) => matches!(core, Core::Str),
         Kind::Body(_) => false,
         Kind::Int => false,
         Kind::Str => true,
@@ -232,7 +234,7 @@ fn is_object_kind(kind: &Kind<'_>) -> bool
     ensures { result ≡ is_foreign (out-Core (core_of kind.now)) }
 {
     match kind {
-        Kind::Core(core) => matches!(core, Core::Object),
+        Kind::Used(_, core) => matches!(core, Core::Object),
         Kind::Body(_) => false,
         Kind::Int => false,
         Kind::Str => false,

@@ -21,7 +21,7 @@ pub use copies::copy;
 pub use equality::same;
 pub use faults::{FieldFault, ValueFault};
 pub use prefixes::{begins_with_maybe, behind_maybes, part_prefixes};
-pub use reading::{read, read_by};
+pub use reading::{read, read_body, read_by};
 pub use showing::{show, show_by, show_fields};
 pub use sizes::levels;
 pub use structs::read_fields;

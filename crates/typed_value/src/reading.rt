@@ -168,8 +168,14 @@ fn read_core(alloc: Global, scope: &Checked, core: &Core, json: &Json) -> Result
     }
 }
 
+/// Reads a JSON value by a body, as `read` does by a type that is this body in place.
 #[cycle(reading)]
-fn read_body(alloc: Global, scope: &Checked, body: &Body, json: &Json) -> Result<Val, ValueFault>
+pub fn read_body(
+    alloc: Global,
+    scope: &Checked,
+    body: &Body,
+    json: &Json,
+) -> Result<Val, ValueFault>
     ensures { Gives result (ReadsBody scope.now body.now (view json.now)) }
 {
     match body {

@@ -9,7 +9,8 @@ use link_port::{List, Memory, Text, Value};
 use serde_json::Value as Json;
 use std::alloc::Global;
 use typed_value::{
-    FieldFault, Val, ValueFault, copy, levels, read, read_fields, same, show, show_fields, weight,
+    FieldFault, Val, ValueFault, copy, levels, read, read_body, read_fields, same, show,
+    show_fields, weight,
 };
 
 // What each JSON text is by a type, or by the fields of `Entry`: the text that shows the value, or why
@@ -52,6 +53,42 @@ fn reads_and_shows(rt: HostRuntime) {
             Ok(told) => assert_eq!(rt; told.as_str(), wanted, "{of} {text}"),
             Err(Memory) => assert!(rt; false, "out of memory"),
         }
+    }
+}
+
+// What a text is by the body of `Side`.
+#[test]
+fn reads_by_a_body(rt: HostRuntime) {
+    match side_of(rt.alloc(), r#""out""#) {
+        Ok(value) => assert!(rt; is_pick(&value, 1)),
+        Err(Memory) => assert!(rt; false, "out of memory"),
+    }
+}
+
+fn is_pick(value: &Val, place: u64) -> bool {
+    match value {
+        Val::Pick(at) => *at == place,
+        _ => false,
+    }
+}
+
+fn side_of(alloc: Global, text: &str) -> Result<Val, Memory> {
+    let scope = scope(alloc)?;
+    let read = match parsed(alloc, text) {
+        Ok(json) => read_side(alloc, &scope, &json),
+        Err(memory) => Err(memory),
+    };
+    drop(scope);
+    read
+}
+
+fn read_side(alloc: Global, scope: &Checked, json: &Value) -> Result<Val, Memory> {
+    match scope.lookup_type("Side") {
+        Some(body) => match read_body(alloc, scope, body, json.inner()) {
+            Ok(value) => Ok(value),
+            Err(_) => Err(Memory),
+        },
+        None => Err(Memory),
     }
 }
 
