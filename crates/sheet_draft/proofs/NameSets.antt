@@ -3,7 +3,7 @@ use Rattle.std.proofs.Common.{◌≡◌, suc, Bool, true, false, ◌||◌, ◌&&
 use Rattle.std.specs.Str.{bytes_eq}
 use Rattle.serde_json.specs.Data.{Data, Items, item}
 use Rattle.idl_tree.specs.Names.{Bytes, is_field_name}
-use Rattle.sheet_draft.specs.Members.{◌>>=◌, only_if}
+use Rattle.expression_draft.specs.Members.{◌>>=◌, only_if}
 use Rattle.sheet_draft.specs.Outlines.{register_of, register_behind, stood}
 use Rattle.sheet_draft.specs.Sheets.{registers_from}
 use Rattle.sheet_draft.specs.declared.drafts.RegisterDraft.{RegisterDraft}

@@ -1,31 +1,13 @@
--- what is read so far, before what is left to read; and how much is left
-use Rattle.std.proofs.Common.{◌≡◌, ℕ, suc, List, [], ◌∷◌, ◌++◌, length, Option, Some, None, Result, Ok, Err, refl, sym, ap, ◌∙◌, append_assoc, length-append, arith}
-use Rattle.serde_json.specs.Data.{Items, no_items, item, Members, no_members, member}
-use Rattle.serde_json.specs.Data.{Data}
+-- what is read so far, before what is left to read
+use Rattle.std.proofs.Common.{◌≡◌, ℕ, suc, List, [], ◌∷◌, ◌++◌, length, Option, Some, Result, Ok, Err, refl, sym, ap, ◌∙◌, append_assoc, length-append, arith}
+use Rattle.serde_json.specs.Data.{Data, Items, item}
 use Rattle.idl_tree.specs.Names.{Bytes}
 use Rattle.sheet_draft.specs.Answers as answer
-use Rattle.sheet_draft.specs.Members.{◌>>=◌}
 use Rattle.sheet_draft.specs.Sheets.{each, branches_from, draft_of_branch}
 use Rattle.sheet_draft.specs.declared.branches.BranchParts.{BranchParts}
 use Rattle.sheet_draft.specs.declared.drafts.BranchDraft.{BranchDraft}
 use Rattle.sheet_draft.specs.declared.faults.DraftFault.{DraftFault}
 use Rattle.sheet_draft.specs.declared.places.Place.{Place}
-
-abbrev pub item_count : Items → ℕ
-item_count no_items = 0
-item_count (item d ds) = suc (item_count ds)
-
-abbrev pub member_count : Members → ℕ
-member_count no_members = 0
-member_count (member name d ms) = suc (member_count ms)
-
-abbrev pub after : {A : Type 0} → List A → Option (List A) → Option (List A)
-after done None = None
-after done (Some left) = Some (done ++ left)
-
-pub after_none : {A : Type 0} (left : Option (List A)) → after [] left ≡ left
-after_none None = refl
-after_none (Some left) = refl
 
 abbrev pub behind : {A : Type 0} → List A → Result (List A) DraftFault → Result (List A) DraftFault
 behind done (Err fault) = Err fault
@@ -36,11 +18,6 @@ behind_none (Err fault) = refl
 behind_none (Ok left) = refl
 
 -- one more that is read
-pub after_more : {A : Type 0} (done : List A) (x : A) (left : Option (List A))
-    → after done (left >>= λ (xs : List A). Some (x ∷ xs)) ≡ after (done ++ x ∷ []) left
-after_more done x None = refl
-after_more done x (Some left) = ap Some (sym (append_assoc done (x ∷ []) left))
-
 pub behind_more : {A : Type 0} (done : List A) (x : A) (left : Result (List A) DraftFault)
     → behind done (answer.◌>>=◌ left (λ (xs : List A). Ok (x ∷ xs))) ≡ behind (done ++ x ∷ []) left
 behind_more done x (Err fault) = refl

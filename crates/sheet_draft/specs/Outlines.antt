@@ -6,7 +6,7 @@ use Rattle.std.specs.List.{list_any}
 use Rattle.serde_json.specs.Data.{Data, Items, array, no_items, item, Members}
 use Rattle.serde_json.specs.Find.{as_str, as_array, as_object, as_number, as_u64}
 use Rattle.idl_tree.specs.Names.{Bytes, is_field_name}
-use Rattle.sheet_draft.specs.Members.{◌>>=◌, has_no_member, named, next, only_if}
+use Rattle.expression_draft.specs.Members.{◌>>=◌, has_no_member, named, next, only_if}
 use Rattle.sheet_draft.specs.Rules.{branches_in}
 use Rattle.sheet_draft.specs.declared.branches.BranchParts.{BranchParts}
 use Rattle.sheet_draft.specs.declared.drafts.Info.{Info}

@@ -7,8 +7,8 @@ use Rattle.serde_json.specs.Find.{as_str, as_array, as_object}
 use Rattle.idl_tree.specs.Names.{Bytes}
 use Rattle.call_form.specs.declared.Raw.{Raw}
 use Rattle.call_form.specs.declared.Raw.TheVariants.{Echo, Discard}
-use Rattle.sheet_draft.specs.Members.{◌>>=◌, only_if, has_no_item, has_no_member, begins_with, named, next, optional}
-use Rattle.sheet_draft.specs.Expressions.{expr_of, ref_of, cond_of}
+use Rattle.expression_draft.specs.Members.{◌>>=◌, only_if, has_no_item, has_no_member, begins_with, named, next, optional}
+use Rattle.expression_draft.specs.Expressions.{expr_of, ref_of, cond_of}
 use Rattle.sheet_draft.specs.declared.drafts.GuardDraft.{GuardDraft}
 use Rattle.sheet_draft.specs.declared.drafts.ActionDraft.{ActionDraft}
 use Rattle.sheet_draft.specs.declared.drafts.ActionDraft.TheVariants.{Set, Push, Put, Drop}

@@ -9,12 +9,12 @@ use Rattle.serde_json.specs.Find.{as_str}
 use Rattle.serde_json.specs.Read.{read}
 use Rattle.idl_tree.specs.Names.{Bytes}
 use Rattle.sheet_draft.specs.Answers.{◌>>=◌, at}
-use Rattle.sheet_draft.specs.Expressions.{cond_of}
+use Rattle.expression_draft.specs.Expressions.{cond_of}
 use Rattle.sheet_draft.specs.Rules.{guard_of, step_of, outcome_of}
 use Rattle.sheet_draft.specs.Outlines.{outline_of, register_behind, stood, branches_by, at_last_dot}
 use Rattle.sheet_draft.specs.declared.branches.BranchParts.{BranchParts}
 use Rattle.sheet_draft.specs.declared.drafts.BranchDraft.{BranchDraft}
-use Rattle.sheet_draft.specs.declared.drafts.CondDraft.{CondDraft}
+use Rattle.expression_draft.specs.declared.drafts.CondDraft.{CondDraft}
 use Rattle.sheet_draft.specs.declared.drafts.RegisterDraft.{RegisterDraft}
 use Rattle.sheet_draft.specs.declared.drafts.RuleDraft.{RuleDraft}
 use Rattle.sheet_draft.specs.declared.drafts.SheetDraft.{SheetDraft}

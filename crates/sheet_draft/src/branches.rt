@@ -1,14 +1,13 @@
 // Branches of rules, by their members.
 ghost use Rattle.std.specs.Prelude.{◌≡◌};
-ghost use Rattle.sheet_draft.specs.Answers.{Gives, GivesNext};
+ghost use Rattle.expression_draft.specs.Answers.{Gives, GivesNext};
 ghost use Rattle.sheet_draft.specs.Outlines.{branches_by};
 ghost use Rattle.sheet_draft.specs.Rules.{branch_of, branches_in, items_named, parts_in, parts_of};
 ghost use Rattle.serde_json.specs.Data.{array};
 ghost use Rattle.sheet_draft.specs.declared.outlines.Version.TheVariants as version;
 
-use crate::faults::Misfit;
-use crate::members::{Items, Members, whole};
 use crate::outlines::Version;
+use expression_draft::{Items, Members, Misfit, whole};
 use link_port::{List, Value};
 use std::alloc::Global;
 

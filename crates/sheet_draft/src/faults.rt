@@ -40,23 +40,3 @@ impl fmt::Display for DraftFault {
 }
 
 impl Error for DraftFault {}
-
-/// Why a part of a sheet has no draft.
-#[derive(Debug, Clone, Copy, PartialEq, Eq)]
-pub enum Misfit {
-    /// It has not the form.
-    Unfit,
-    /// Memory was not granted.
-    Memory,
-}
-
-impl From<Memory> for Misfit {
-    ghost use Rattle.std.specs.Prelude.{◌≡◌};
-    ghost use Rattle.sheet_draft.specs.declared.faults.Misfit.TheVariants as misfit;
-
-    ghost from_gives = { λ _ made. made ≡ misfit.Memory };
-
-    fn from(_memory: Memory) -> Misfit {
-        Misfit::Memory
-    }
-}

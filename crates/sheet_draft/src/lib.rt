@@ -3,27 +3,21 @@
 #![tactic(auto)]
 
 mod branches;
-mod conditions;
 mod drafts;
-mod expressions;
 mod faults;
-mod forms;
-mod members;
 mod names;
 mod outcomes;
 mod outlines;
 mod places;
-mod references;
 mod registers;
 mod rules;
 mod sheets;
 mod steps;
-mod texts;
 
 pub use drafts::{
-    ActionDraft, BranchDraft, CondDraft, EndingDraft, ExprDraft, GuardDraft, Info, RefDraft,
-    RegisterDraft, RuleDraft, SheetDraft,
+    ActionDraft, BranchDraft, EndingDraft, GuardDraft, Info, RegisterDraft, RuleDraft, SheetDraft,
 };
+pub use expression_draft::{CondDraft, ExprDraft, RefDraft};
 pub use faults::DraftFault;
 pub use places::{Place, Spot};
 pub use sheets::read;

@@ -1,9 +1,9 @@
 // Names of rules, split at their last dot.
 ghost use Rattle.std.specs.Prelude.{◌≡◌};
-ghost use Rattle.sheet_draft.specs.Answers.{Gives};
+ghost use Rattle.expression_draft.specs.Answers.{Gives};
 ghost use Rattle.sheet_draft.specs.Outlines.{at_last_dot};
 
-use crate::faults::Misfit;
+use expression_draft::Misfit;
 use link_port::Text;
 use std::alloc::Global;
 

@@ -1,15 +1,12 @@
 // Outcomes.
 ghost use Rattle.std.specs.Prelude.{◌≡◌};
-ghost use Rattle.sheet_draft.specs.Answers.{Gives, GivesNext};
-ghost use Rattle.sheet_draft.specs.Members.{named};
+ghost use Rattle.expression_draft.specs.Answers.{Gives, GivesNext};
+ghost use Rattle.expression_draft.specs.Members.{named};
 ghost use Rattle.sheet_draft.specs.Rules.{outcome_of, outcome_in, stream_in, reply_in, raw_of, raw_named};
 
 use crate::drafts::EndingDraft;
-use crate::expressions::next_expr;
-use crate::faults::Misfit;
-use crate::members::{Members, whole};
-use crate::references::next_ref;
 use call_form::Raw;
+use expression_draft::{Members, Misfit, next_expr, next_ref, whole};
 use link_port::Value;
 use std::alloc::Global;
 

@@ -1,6 +1,6 @@
 // The members of a sheet.
 use crate::drafts::Info;
-use crate::members::{Items, Members};
+use expression_draft::{Items, Members};
 
 /// A version of the form of sheets.
 #[derive(Debug, Clone, Copy, PartialEq, Eq)]

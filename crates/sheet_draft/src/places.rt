@@ -1,5 +1,5 @@
 // Places in a sheet.
-ghost use Rattle.std.specs.Prelude.{◌≡◌, IfOk, string_bytes};
+ghost use Rattle.std.specs.Prelude.{◌≡◌, ◌++◌, codes, decimal, IfOk, string_bytes};
 ghost use Rattle.sheet_draft.specs.Places.{place_text, spot_text};
 ghost use Rattle.sheet_draft.specs.declared.places.Place.TheVariants as place;
 
@@ -65,13 +65,29 @@ fn rule_text(alloc: Global, name: &Text, spot: Spot) -> Result<String, Memory>
 fn spot_text(alloc: Global, spot: Spot) -> Result<String, Memory>
     ensures { IfOk result (λ text. string_bytes text ≡ spot_text spot) }
 {
-    let text = match spot {
-        Spot::Whole => String::new(alloc),
-        Spot::When(branch) => format!(in alloc; " branch {branch} when")?,
-        Spot::Guard(branch, k) => format!(in alloc; " branch {branch} guard {k}")?,
-        Spot::Step(branch, k) => format!(in alloc; " branch {branch} step {k}")?,
-        Spot::Outcome(branch) => format!(in alloc; " branch {branch} outcome")?,
-    };
+    match spot {
+        Spot::Whole => Ok(String::new(alloc)),
+        Spot::When(branch) => branch_text(alloc, branch, "when"),
+        Spot::Guard(branch, k) => part_text(alloc, branch, "guard", k),
+        Spot::Step(branch, k) => part_text(alloc, branch, "step", k),
+        Spot::Outcome(branch) => branch_text(alloc, branch, "outcome"),
+    }
+}
+
+// The text of what a branch has once.
+fn branch_text(alloc: Global, branch: u64, what: &str) -> Result<String, Memory>
+    ensures { IfOk result (λ text. string_bytes text ≡ codes " branch " ++ decimal branch ++ codes " " ++ what.now) }
+{
+    let text = format!(in alloc; " branch {branch} {what}")?;
+    Ok(text)
+}
+
+// The text of what a branch has in a row.
+fn part_text(alloc: Global, branch: u64, what: &str, k: u64) -> Result<String, Memory>
+    ensures { IfOk result (λ text. string_bytes text
+        ≡ codes " branch " ++ decimal branch ++ codes " " ++ what.now ++ codes " " ++ decimal k) }
+{
+    let text = format!(in alloc; " branch {branch} {what} {k}")?;
     Ok(text)
 }
 

@@ -1,5 +1,5 @@
 // Rules.
-ghost use Rattle.std.specs.Prelude.{◌≡◌};
+ghost use Rattle.std.specs.Prelude.{◌≡◌, string_bytes};
 ghost use Rattle.sheet_draft.specs.Answers.{Reads, Tells, at};
 ghost use Rattle.sheet_draft.specs.Rules.{guard_of, step_of};
 ghost use Rattle.sheet_draft.specs.Sheets.{draft_of_branch, branches_from, behind_when, branches_read, each, rule_of, rules_in, when_of};
@@ -7,15 +7,14 @@ ghost use Rattle.sheet_draft.specs.declared.places.Place.TheVariants as place;
 ghost use Rattle.sheet_draft.specs.declared.places.Spot.TheVariants as spot;
 
 use crate::branches::{BranchParts, branches_by};
-use crate::conditions::read_cond;
-use crate::drafts::{ActionDraft, BranchDraft, CondDraft, GuardDraft, RuleDraft};
-use crate::faults::{DraftFault, Misfit};
-use crate::members::{Items, Members};
+use crate::drafts::{ActionDraft, BranchDraft, GuardDraft, RuleDraft};
+use crate::faults::DraftFault;
 use crate::names::at_last_dot;
 use crate::outcomes::read_outcome;
 use crate::outlines::Version;
 use crate::places::{Place, Spot};
 use crate::steps::{read_guard, read_step};
+use expression_draft::{CondDraft, Items, Members, Misfit, read_cond};
 use link_port::{List, Text, Value};
 use std::alloc::Global;
 
@@ -29,11 +28,28 @@ pub fn read_rules(
 {
     let mut rules = List::new(alloc);
     while let Some((name, value)) = members.first() {
-        let name = Text::of(alloc, name.as_str())?;
-        let rule = read_rule(alloc, version, name, value)?;
+        let rule = read_named(alloc, version, name, value)?;
         rules.push(rule)?;
     }
     Ok(rules)
+}
+
+// Reads a rule of this name.
+fn read_named(
+    alloc: Global,
+    version: Version,
+    name: String,
+    value: Value,
+) -> Result<RuleDraft, DraftFault>
+    ensures { Reads result (rule_of version (string_bytes name) value) }
+{
+    match Text::of(alloc, name.as_str()) {
+        Ok(name) => read_rule(alloc, version, name, value),
+        Err(_) => {
+            drop(value);
+            Err(DraftFault::Memory)
+        }
+    }
 }
 
 // Reads a rule of this name.

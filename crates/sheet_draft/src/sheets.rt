@@ -1,19 +1,19 @@
 // Sheets.
 ghost use Rattle.std.specs.Prelude.{◌≡◌};
 ghost use Rattle.serde_json.specs.Find.{as_array, as_object};
-ghost use Rattle.sheet_draft.specs.Answers.{Gives, GivesNext, Reads};
-ghost use Rattle.sheet_draft.specs.Members.{named};
+ghost use Rattle.expression_draft.specs.Answers.{Gives, GivesNext};
+ghost use Rattle.sheet_draft.specs.Answers.{Reads};
+ghost use Rattle.expression_draft.specs.Members.{named};
 ghost use Rattle.sheet_draft.specs.Outlines.{outline_of, outline_in, contents_in, tables_in, info_in, version_of};
 ghost use Rattle.sheet_draft.specs.Sheets.{draft_of, json_of, sheet_of, sheet_behind};
 
 use crate::drafts::{Info, SheetDraft};
-use crate::faults::{DraftFault, Misfit};
-use crate::members::{Items, Members, whole};
+use crate::faults::DraftFault;
 use crate::outlines::{Contents, Outline, Version};
 use crate::places::Place;
 use crate::registers::{read_interfaces, read_registers};
 use crate::rules::read_rules;
-use crate::texts::next_text;
+use expression_draft::{Items, Members, Misfit, next_text, whole};
 use link_port::{Text, Value};
 use serde_json::Value as Json;
 use simdutf8::compat;

@@ -1,14 +1,10 @@
 // Guards and steps.
 ghost use Rattle.std.specs.Prelude.{◌≡◌};
-ghost use Rattle.sheet_draft.specs.Answers.{Gives};
+ghost use Rattle.expression_draft.specs.Answers.{Gives};
 ghost use Rattle.sheet_draft.specs.Rules.{guard_of, guard_in, step_of, step_in, set_in, push_in, put_in, drop_in};
 
-use crate::conditions::next_cond;
 use crate::drafts::{ActionDraft, GuardDraft};
-use crate::expressions::next_expr;
-use crate::faults::Misfit;
-use crate::members::{Members, whole};
-use crate::texts::next_text;
+use expression_draft::{Members, Misfit, next_cond, next_expr, next_text, whole};
 use link_port::Value;
 use std::alloc::Global;
 

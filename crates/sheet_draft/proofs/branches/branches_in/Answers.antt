@@ -1,6 +1,6 @@
 use Rattle.std.proofs.Common.{sym, ◌∙◌}
 use Rattle.sheet_draft.specs.Rules.{branches_in}
-use Rattle.sheet_draft.proofs.Rests.{after_more}
+use Rattle.expression_draft.proofs.Rests.{after_more}
 use Rattle.sheet_draft.proofs.branches.branches_in.Goals as goal
 
 pub loop-value-preserved : goal.loop-value-preserved

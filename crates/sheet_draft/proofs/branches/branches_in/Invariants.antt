@@ -1,6 +1,6 @@
 use Rattle.std.proofs.Common.{◌≡◌}
 use Rattle.sheet_draft.specs.Rules.{branches_in}
-use Rattle.sheet_draft.proofs.Rests.{after, item_count}
+use Rattle.expression_draft.proofs.Rests.{after, item_count}
 use Rattle.sheet_draft.proofs.branches.branches_in.Given as goal
 
 abbrev pub invariant-loop-value : goal.invariant-loop-value

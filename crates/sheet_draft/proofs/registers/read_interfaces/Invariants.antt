@@ -2,7 +2,8 @@ use Rattle.std.proofs.Common.{◌≡◌, length}
 use Rattle.serde_json.specs.Find.{as_str}
 use Rattle.sheet_draft.specs.Sheets.{each}
 use Rattle.sheet_draft.specs.declared.places.Place.TheVariants.{Interface}
-use Rattle.sheet_draft.proofs.Rests.{behind, item_count}
+use Rattle.expression_draft.proofs.Rests.{item_count}
+use Rattle.sheet_draft.proofs.Rests.{behind}
 use Rattle.sheet_draft.proofs.registers.read_interfaces.Given as goal
 
 abbrev pub invariant-loop-value : goal.invariant-loop-value

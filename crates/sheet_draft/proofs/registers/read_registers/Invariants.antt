@@ -4,7 +4,8 @@ use Rattle.idl_tree.specs.Names.{Bytes}
 use Rattle.sheet_draft.specs.Outlines.{stood}
 use Rattle.sheet_draft.specs.Sheets.{registers_from}
 use Rattle.sheet_draft.specs.declared.drafts.RegisterDraft.{RegisterDraft}
-use Rattle.sheet_draft.proofs.Rests.{behind, item_count}
+use Rattle.expression_draft.proofs.Rests.{item_count}
+use Rattle.sheet_draft.proofs.Rests.{behind}
 use Rattle.sheet_draft.proofs.registers.read_registers.Given as goal
 
 abbrev pub invariant-loop-value : goal.invariant-loop-value

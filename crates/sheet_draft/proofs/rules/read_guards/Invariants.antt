@@ -3,7 +3,8 @@ use Rattle.sheet_draft.specs.Rules.{guard_of}
 use Rattle.sheet_draft.specs.Sheets.{each}
 use Rattle.sheet_draft.specs.declared.places.Place.TheVariants.{Rule}
 use Rattle.sheet_draft.specs.declared.places.Spot.TheVariants.{Guard}
-use Rattle.sheet_draft.proofs.Rests.{behind, item_count}
+use Rattle.expression_draft.proofs.Rests.{item_count}
+use Rattle.sheet_draft.proofs.Rests.{behind}
 use Rattle.sheet_draft.proofs.rules.read_guards.Given as goal
 
 abbrev pub invariant-loop-value : goal.invariant-loop-value

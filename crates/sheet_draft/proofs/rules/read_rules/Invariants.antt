@@ -1,6 +1,7 @@
 use Rattle.std.proofs.Common.{◌≡◌}
 use Rattle.sheet_draft.specs.Sheets.{rules_in}
-use Rattle.sheet_draft.proofs.Rests.{behind, member_count}
+use Rattle.expression_draft.proofs.Rests.{member_count}
+use Rattle.sheet_draft.proofs.Rests.{behind}
 use Rattle.sheet_draft.proofs.rules.read_rules.Given as goal
 
 abbrev pub invariant-loop-name : goal.invariant-loop-name

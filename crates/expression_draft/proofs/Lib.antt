@@ -1,0 +1,4 @@
+pub mod Fronts
+pub mod Opened
+pub mod Rests
+pub mod Soles
