@@ -1,0 +1,4 @@
+pub mod Behind
+pub mod Bounded
+pub mod Typed
+pub mod Missing

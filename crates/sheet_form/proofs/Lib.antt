@@ -1,4 +1,0 @@
-pub mod After
-pub mod MadeGives
-pub mod Opens
-pub mod Typed

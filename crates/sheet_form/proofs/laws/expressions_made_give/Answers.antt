@@ -1,5 +1,0 @@
-use Rattle.sheet_form.proofs.MadeGives.{made_gives}
-use Rattle.sheet_form.proofs.laws.expressions_made_give.Goals as goal
-
-pub returns : goal.returns
-returns c = made_gives

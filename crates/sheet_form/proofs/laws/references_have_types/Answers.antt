@@ -1,5 +1,0 @@
-use Rattle.sheet_form.proofs.Typed.{refs_have_types}
-use Rattle.sheet_form.proofs.laws.references_have_types.Goals as goal
-
-pub returns : goal.returns
-returns c = refs_have_types

@@ -1,4 +1,0 @@
-pub mod Expressions
-pub mod Forms
-pub mod Laws
-pub mod References
