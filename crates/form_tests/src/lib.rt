@@ -1,0 +1,5 @@
+//! Whole sheets: what is read of each, and which of its parts is refused first.
+#![tactic(auto)]
+
+#[cfg(test)]
+mod tables;

@@ -1,0 +1,5 @@
+pub mod Names
+pub mod OneAnswer
+pub mod OneSheet
+pub mod Passing
+pub mod RulesTyped

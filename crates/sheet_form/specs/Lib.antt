@@ -1,0 +1,5 @@
+pub mod Answers
+pub mod Interfaces
+pub mod Registers
+pub mod Rules
+pub mod Sheets

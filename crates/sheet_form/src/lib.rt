@@ -1,0 +1,17 @@
+//! Sheets of a service, read whole: what each says, typed, and why a text is none.
+#![tactic(auto)]
+
+mod faults;
+mod interfaces;
+mod laws;
+mod registers;
+mod rules;
+mod sheets;
+
+pub use faults::SheetFault;
+pub use laws::one_answer;
+pub use sheet_draft::{Info, Place, Spot};
+pub use sheets::{Sheet, read};
+
+/// The greatest number of levels of a register's first value.
+pub const MOST_LEVELS: u64 = 120;

@@ -1,0 +1,191 @@
+// Whole sheets.
+ghost use Rattle.std.specs.Prelude.{◌≡◌, List, Result};
+ghost use Rattle.rule_form.specs.Rules.{interface_place};
+ghost use Rattle.sheet_form.specs.Answers.{Reads, Same};
+ghost use Rattle.sheet_form.specs.Rules.{AreTyped};
+ghost use Rattle.sheet_form.specs.Sheets.{draft_fault, sheet_behind, sheet_of, tables_of};
+ghost use Rattle.sheet_form.specs.declared.faults.SheetFault.{SheetFault};
+ghost use Rattle.sheet_form.specs.declared.sheets.Contents.{Contents};
+
+use crate::faults::SheetFault;
+use crate::interfaces::{Interfaces, read_interfaces};
+use crate::registers::read_registers;
+use crate::rules::read_rules;
+use idl_tree::Checked;
+use link_port::{List, Text};
+use sheet_draft::{DraftFault, Info, RegisterDraft, SheetDraft};
+use sheet_rules::{Register, Rule};
+use std::alloc::Global;
+use std::marker::Model;
+
+/// What a sheet says.
+#[derive(Drop)]
+pub struct Contents {
+    /// Who made the service.
+    pub info: Info,
+    /// The interfaces in order.
+    pub interfaces: Interfaces,
+    /// The registers in order.
+    pub registers: List<Register>,
+    /// The rules in the byte order of their names.
+    pub rules: List<Rule>,
+}
+
+/// A sheet whose rules are typed by its interfaces and registers. Contracts see what it says.
+#[derive(Drop)]
+pub struct Sheet {
+    contents: Contents,
+}
+
+impl Model for Sheet {
+    ghost use Rattle.sheet_form.specs.Rules.{AreTyped};
+    ghost use Rattle.sheet_form.specs.declared.sheets.Contents.{Contents};
+    ghost use Rattle.sheet_form.specs.contracts.sheets.Contents as stored;
+
+    ghost Value = { Contents };
+
+    ghost coded = { stored.the_row.coded };
+
+    ghost view = { λ sheet. sheet.contents };
+
+    ghost invariant = { λ sheet.
+        AreTyped sheet.contents.interfaces sheet.contents.registers sheet.contents.rules };
+}
+
+impl Sheet {
+    /// Who made the service.
+    pub fn info(&self) -> &Info
+        ensures { result.now ≡ self.now.info }
+    {
+        &self.contents.info
+    }
+
+    /// The interfaces in order.
+    pub fn interfaces(&self) -> &[Checked]
+        ensures { result.now ≡ self.now.interfaces }
+    {
+        self.contents.interfaces.as_slice()
+    }
+
+    /// The registers in order.
+    pub fn registers(&self) -> &[Register]
+        ensures { result.now ≡ self.now.registers }
+    {
+        self.contents.registers.as_slice()
+    }
+
+    /// The rules in the byte order of their names. Each is typed.
+    pub fn rules(&self) -> &[Rule]
+        ensures rules { result.now ≡ self.now.rules }
+        ensures typed { AreTyped self.now.interfaces self.now.registers self.now.rules }
+    {
+        self.contents.rules.as_slice()
+    }
+
+    /// The place of the interface of this name, and None exactly where the sheet has none.
+    pub fn interface_of(&self, name: &str) -> Option<u64>
+        ensures { result ≡ interface_place self.now.interfaces name.now }
+    {
+        self.contents.interfaces.place(name)
+    }
+}
+
+/// Reads a sheet.
+///
+/// The fault is the first that applies: the text is no JSON; it has not the form of a sheet; then of each
+/// definition in order, of each register and of each rule.
+pub fn read(alloc: Global, text: &[u8]) -> Result<Sheet, SheetFault>
+    ensures answer { Reads result (sheet_of text.now) }
+    ensures exact { (other : Result Contents SheetFault) → sheet_of text.now other → Same result other }
+{
+    read_text(alloc, text)
+}
+
+fn read_text(alloc: Global, text: &[u8]) -> Result<Sheet, SheetFault>
+    ensures { Reads result (sheet_of text.now) }
+{
+    match sheet_draft::read(alloc, text) {
+        Ok(draft) => read_draft(alloc, draft),
+        Err(fault) => Err(of_draft(fault)),
+    }
+}
+
+fn of_draft(fault: DraftFault) -> SheetFault
+    ensures { result ≡ draft_fault fault }
+{
+    match fault {
+        DraftFault::NotJson => SheetFault::NotJson,
+        DraftFault::Shape { place } => SheetFault::Shape { place },
+        DraftFault::Memory => SheetFault::Memory,
+    }
+}
+
+// The sheet that a draft is.
+fn read_draft(alloc: Global, draft: SheetDraft) -> Result<Sheet, SheetFault>
+    ensures { Reads result (sheet_behind draft) }
+{
+    let SheetDraft {
+        info,
+        interfaces,
+        registers,
+        rules,
+    } = draft;
+    match read_tables(alloc, interfaces, registers) {
+        Ok((interfaces, registers)) => {
+            match read_rules(alloc, &interfaces, registers.as_slice(), rules) {
+                Ok(rules) => Ok(assembled(info, interfaces, registers, rules)),
+                Err(fault) => {
+                    drop((info, interfaces, registers));
+                    Err(fault)
+                }
+            }
+        }
+        Err(fault) => {
+            drop((info, rules));
+            Err(fault)
+        }
+    }
+}
+
+// The sheet that says this.
+fn assembled(
+    info: Info,
+    interfaces: Interfaces,
+    registers: List<Register>,
+    rules: List<Rule>,
+) -> Sheet
+    requires { AreTyped interfaces registers rules }
+    ensures { result ≡ record { info = info; interfaces = interfaces; registers = registers; rules = rules } }
+{
+    Sheet {
+        contents: Contents {
+            info,
+            interfaces,
+            registers,
+            rules,
+        },
+    }
+}
+
+// The interfaces and the registers.
+fn read_tables(
+    alloc: Global,
+    texts: List<Text>,
+    drafts: List<RegisterDraft>,
+) -> Result<(Interfaces, List<Register>), SheetFault>
+    ensures { Reads result (tables_of texts drafts) }
+{
+    match read_interfaces(alloc, texts) {
+        Ok(interfaces) => match read_registers(alloc, &interfaces, drafts) {
+            Ok(registers) => Ok((interfaces, registers)),
+            Err(fault) => {
+                drop(interfaces);
+                Err(fault)
+            }
+        },
+        Err(fault) => {
+            drop(drafts);
+            Err(fault)
+        }
+    }
+}
