@@ -1,0 +1,2 @@
+pub mod EqualCodes
+pub mod Parting
