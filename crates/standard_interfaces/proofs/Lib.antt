@@ -1,0 +1,4 @@
+mod TextFields
+mod Rows
+mod Accepted
+pub mod Replies
