@@ -58,7 +58,7 @@ expect_unwritten() {
 
 # ---- words
 
-for words in "" "Session" "session session x" "--help" "help" "check" "format" "check a b" "check --a" "lint good.varlink"; do
+for words in "" "Session" "session session x" "--help" "help" "check" "format" "sheet" "sheet --a" "sheet a b" "check a b" "check --a" "lint good.varlink"; do
     # shellcheck disable=SC2086
     expect "the words '$words'" 1 - 'bad words' $words </dev/null
 done
@@ -129,6 +129,25 @@ expect 'a file of 1,048,577 bytes' 2 - "$work/longer is too long" format "$work/
 : >"$work/in"
 expect_unwritten check 'write fault' check good.varlink
 expect_unwritten format 'write fault' format good.varlink
+
+# ---- sheet
+
+sheet=$top/examples/count.json
+printf 'interfaces 1\nregisters 2\nrules 4\n' >"$work/counts"
+expect 'a good sheet' 0 "$work/counts" - sheet "$sheet" </dev/null
+while IFS='|' read -r line change; do
+    sed "$change" "$sheet" >"$work/sheet"
+    expect "a sheet with $change" 2 - "$line" sheet "$work/sheet" </dev/null
+done <sheet-refusals
+expect 'a sheet that is a folder' 5 - 'cannot read .' sheet . </dev/null
+expect 'a missing sheet' 5 - 'cannot read missing.json' sheet missing.json </dev/null
+length=$(wc -c <"$sheet")
+{ cat "$sheet"; head -c $((16777216 - length)) /dev/zero | tr '\0' ' '; } >"$work/longest"
+{ cat "$work/longest"; printf ' '; } >"$work/longer"
+expect 'a sheet of 16,777,216 bytes' 0 "$work/counts" - sheet "$work/longest" </dev/null
+expect 'a sheet of 16,777,217 bytes' 2 - "$work/longer is too long" sheet "$work/longer" </dev/null
+: >"$work/in"
+expect_unwritten sheet 'write fault' sheet "$sheet"
 
 echo "program: $passed passed, $failed failed"
 [ "$failed" = 0 ]

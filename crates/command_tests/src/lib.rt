@@ -10,4 +10,6 @@ mod rows;
 #[cfg(test)]
 mod sessions;
 #[cfg(test)]
+mod sheets;
+#[cfg(test)]
 mod words;

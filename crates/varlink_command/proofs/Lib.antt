@@ -2,3 +2,5 @@ pub mod Joining
 pub mod ServiceLemmas
 pub mod SessionLemmas
 pub mod Telling
+pub mod Counting
+pub mod Reasons

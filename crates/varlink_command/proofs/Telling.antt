@@ -5,9 +5,11 @@ use Rattle.idl_tree.specs.declared.trees.Interface.{Interface}
 use Rattle.varlink_command.specs.declared.faults.Fault.{Fault}
 use Rattle.varlink_command.specs.declared.showing.Showing.{Showing}
 use Rattle.varlink_command.specs.declared.words.Command.{Command}
-use Rattle.varlink_command.specs.declared.words.Command.TheVariants.{Session, Check, Format}
+use Rattle.varlink_command.specs.declared.words.Command.TheVariants.{Session, Check, Format, Sheet}
 use Rattle.varlink_command.specs.Definitions.{ShowsDefinition, ShowsRead}
 use Rattle.varlink_command.specs.Ends.{Ends, Object}
+use Rattle.varlink_command.specs.Sheets.{CountsRead, CountsSheet}
+use Rattle.sheet_form.specs.declared.sheets.Contents.{Contents}
 use Rattle.varlink_command.specs.Offline.{Ran}
 
 -- the same ends with another sink of faults
@@ -29,6 +31,21 @@ shows-told showing path before after faults outcome shown = record {
   shows = shows-read showing shown.read before after faults outcome shown.shows;
 }
 
+counts-read : (read : Result Contents Fault) (before after : Ends) (faults : Object) (outcome : Result ⊤ Fault) →
+    CountsRead read before after outcome → CountsRead read before (told after faults) outcome
+counts-read (Ok sheet) before after faults outcome shows = shows
+counts-read (Err why) before after faults outcome shows = shows
+
+counts-told : (path : List ℕ) (before after : Ends) (faults : Object) (outcome : Result ⊤ Fault) →
+    CountsSheet path before after outcome → CountsSheet path before (told after faults) outcome
+counts-told path before after faults outcome counted = record {
+  read = counted.read;
+  reads = counted.reads;
+  counted = counted.counted;
+  asked = counted.asked;
+  shows = counts-read counted.read before after faults outcome counted.shows;
+}
+
 pub Ran-told : (command : Option Command) (path : List ℕ) (before after : Ends) (faults : Object) (outcome : Result ⊤ Fault) →
     Ran command path before after outcome → Ran command path before (told after faults) outcome
 Ran-told None path before after faults outcome ran = ran
@@ -36,3 +53,4 @@ Ran-told (Some Session) path before after faults outcome ran =
     record { why = ran.why; served = ran.served; reads = ran.reads; writes = ran.writes; comes = ran.comes }
 Ran-told (Some Check) path before after faults outcome ran = shows-told _ path before after faults outcome ran
 Ran-told (Some Format) path before after faults outcome ran = shows-told _ path before after faults outcome ran
+Ran-told (Some Sheet) path before after faults outcome ran = counts-told path before after faults outcome ran

@@ -27,14 +27,25 @@ shown Text tree = Canon tree
 -- ---- a definition is read
 
 -- the file's text is this one, where what it holds is told, and is within the limit
-pub record Holds (held : Option (List ℕ)) (text : List ℕ) : Type 0 where
+pub record Holds (limit : ℕ) (held : Option (List ℕ)) (text : List ℕ) : Type 0 where
   pub is : IfSome held (λ content. text ≡ content)
-  pub within : length text ≤ definition_limit
+  pub within : length text ≤ limit
+
+abbrev pub IsPastLimit : ℕ → Option (List ℕ) → Type 0
+IsPastLimit limit held = IfSome held (λ content. limit < length content)
+
+-- what was read of a file
+abbrev pub ReadsFile : ℕ → Option (List ℕ) → Result (List ℕ) Fault → Type 0
+ReadsFile limit held (Ok text) = Holds limit held text
+ReadsFile limit held (Err fault.PastLimit) = IsPastLimit limit held
+ReadsFile limit held (Err fault.Unreadable) = ⊤
+ReadsFile limit held (Err fault.Memory) = ⊤
+ReadsFile limit held (Err why) = ⊥
 
 -- the text is accepted as this tree
 pub record IsDefinition (held : Option (List ℕ)) (tree : Interface) : Type 0 where
   pub text : List ℕ
-  pub holds : Holds held text
+  pub holds : Holds definition_limit held text
   pub accepts : Accepts text tree
 
 -- want of memory is no cause of a refusal
@@ -45,25 +56,22 @@ IsCause fault = ⊤
 -- the text is accepted as no tree, and this is why
 pub record IsNone (held : Option (List ℕ)) (fault : IdlFault) : Type 0 where
   pub text : List ℕ
-  pub holds : Holds held text
+  pub holds : Holds definition_limit held text
   pub caused : IsCause fault
   pub refuses : Refuses fault text
   pub none : (tree : Interface) → Accepts text tree → ⊥
 
-abbrev pub IsPastLimit : Option (List ℕ) → Type 0
-IsPastLimit held = IfSome held (λ content. definition_limit < length content)
-
--- what was read of a file
+-- what was read of a file as a definition
 abbrev pub ReadsDefinition : Option (List ℕ) → Result Interface Fault → Type 0
 ReadsDefinition held (Ok tree) = IsDefinition held tree
 ReadsDefinition held (Err (fault.NoDefinition why)) = IsNone held why
-ReadsDefinition held (Err fault.PastLimit) = IsPastLimit held
+ReadsDefinition held (Err fault.PastLimit) = IsPastLimit definition_limit held
 ReadsDefinition held (Err fault.Unreadable) = ⊤
 ReadsDefinition held (Err fault.Memory) = ⊤
 ReadsDefinition held (Err why) = ⊥
 
 -- the count of faults of the files rose exactly where they failed
-abbrev pub FilesFault : ℕ → ℕ → Result Interface Fault → Type 0
+abbrev pub FilesFault : {A : Type 0} → ℕ → ℕ → Result A Fault → Type 0
 FilesFault before now (Err fault.Unreadable) = Rises before now
 FilesFault before now result = now ≡ before
 

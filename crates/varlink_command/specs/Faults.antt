@@ -10,6 +10,7 @@ abbrev pub status_of : Fault → ℕ
 status_of fault.BadWords = 1
 status_of fault.PastLimit = 2
 status_of (fault.NoDefinition why) = 2
+status_of (fault.NoSheet why) = 2
 status_of (fault.Cut bytes) = 3
 status_of (fault.NotCall index) = 3
 status_of (fault.TooLong index) = 3

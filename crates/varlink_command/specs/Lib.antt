@@ -6,5 +6,6 @@ pub mod FixedService
 pub mod Lines
 pub mod Offline
 pub mod Sessions
+pub mod Sheets
 pub mod Words
 pub mod RealEnds

@@ -7,12 +7,13 @@ use Rattle.varlink_command.specs.declared.faults.Fault.{Fault}
 use Rattle.varlink_command.specs.declared.faults.Fault.TheVariants as fault
 use Rattle.varlink_command.specs.declared.showing.Showing.TheVariants as showing
 use Rattle.varlink_command.specs.declared.words.Command.{Command}
-use Rattle.varlink_command.specs.declared.words.Command.TheVariants.{Session, Check, Format}
+use Rattle.varlink_command.specs.declared.words.Command.TheVariants.{Session, Check, Format, Sheet}
 use Rattle.varlink_command.specs.Definitions.{ShowsDefinition}
 use Rattle.varlink_command.specs.Ends.{Ends, Object, PutsNothing}
 use Rattle.varlink_command.specs.Faults.{status_of}
 use Rattle.varlink_command.specs.FaultTexts.{fault_line}
 use Rattle.varlink_command.specs.Sessions.{ServesSession}
+use Rattle.varlink_command.specs.Sheets.{CountsSheet}
 use Rattle.varlink_command.specs.Words.{command, path_of}
 
 -- what the command on this path did, and what it came to
@@ -25,6 +26,8 @@ Ran (Some Session) path before after outcome = ServesSession before after outcom
 Ran (Some Check) path before after outcome = ShowsDefinition showing.Name path before after outcome
 -- `format PATH`: its canonical text
 Ran (Some Format) path before after outcome = ShowsDefinition showing.Text path before after outcome
+-- `sheet PATH`: how much the sheet in that file has
+Ran (Some Sheet) path before after outcome = CountsSheet path before after outcome
 
 -- a line was put, or the sink failed and a front of the line was put
 abbrev pub TellsLine : List ℕ → Object → Object → Type 0

@@ -2,7 +2,7 @@
 use Rattle.std.specs.Prelude.{ℕ, ◌==◌, ◌&&◌, Bool, false, List, [], ◌∷◌, codes, if◌then◌else◌, Option, Some, None}
 use Rattle.std.specs.Cmp.Lexicographic.{pointwise}
 use Rattle.varlink_command.specs.declared.words.Command.{Command}
-use Rattle.varlink_command.specs.declared.words.Command.TheVariants.{Session, Check, Format}
+use Rattle.varlink_command.specs.declared.words.Command.TheVariants.{Session, Check, Format, Sheet}
 
 abbrev pub is_word : List ℕ → List ℕ → Bool
 is_word word other = pointwise ◌==◌ word other
@@ -16,9 +16,9 @@ is_option (b ∷ c ∷ bytes) = (b == 45) && (c == 45)
 -- the command whose word takes a path
 abbrev pub path_command : List ℕ → Option Command
 path_command word = if is_word word (codes "check") then Some Check
-    else (if is_word word (codes "format") then Some Format else None)
+    else (if is_word word (codes "format") then Some Format else (if is_word word (codes "sheet") then Some Sheet else None))
 
--- `session`, `check PATH` and `format PATH`; no option is known, and no other words are a command
+-- `session`, `check PATH`, `format PATH` and `sheet PATH`; no option is known, and no other words are a command
 abbrev pub command : List (List ℕ) → Option Command
 command (word ∷ []) = if is_word word (codes "session") then Some Session else None
 command (word ∷ path ∷ []) = if is_option path then None else path_command word

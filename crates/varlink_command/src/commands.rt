@@ -5,12 +5,14 @@ ghost use Rattle.varlink_command.specs.Definitions.{ShowsDefinition};
 ghost use Rattle.varlink_command.specs.Ends.{AreOpen, KeepsOthers};
 ghost use Rattle.varlink_command.specs.Offline.{Concludes, Ran, Runs};
 ghost use Rattle.varlink_command.specs.Sessions.{ServesSession, outcome_of as stop_outcome};
+ghost use Rattle.varlink_command.specs.Sheets.{CountsSheet};
 ghost use Rattle.varlink_command.specs.Words.{command, path_of as path_word};
 
 use crate::fault_lines::write_fault_line;
 use crate::faults::Fault;
-use crate::reading::read_definition;
+use crate::reading::{read_definition, read_sheet};
 use crate::services::FixedService;
+use crate::sheets::show_counts;
 use crate::showing::{Showing, show};
 use crate::words::{Command, command_of, path_of};
 use crate::worlds::{Desktop, Status, World};
@@ -22,7 +24,8 @@ use std::alloc::Global;
 ///
 /// `session` serves the calls that come from the input, and writes the replies to the output.
 /// `check PATH` prints `ok` and the name of the definition in that file, and `format PATH` its
-/// canonical text. All other words are bad words, status 1. A fault is told by a line in the sink of
+/// canonical text. `sheet PATH` tells how many interfaces, registers and rules the sheet in that file has.
+/// All other words are bad words, status 1. A fault is told by a line in the sink of
 /// faults; that the line cannot be written changes nothing. The call always returns, and takes at most
 /// 2^40 bytes.
 pub fn offline<S: Source, O: Sink, E: Sink, F: Files>(
@@ -70,6 +73,7 @@ fn run<S: Source, O: Sink, E: Sink, F: Files>(
         Some(Command::Session) => session(alloc, world),
         Some(Command::Check) => definition(alloc, Showing::Name, path_of(words), world),
         Some(Command::Format) => definition(alloc, Showing::Text, path_of(words), world),
+        Some(Command::Sheet) => sheet(alloc, path_of(words), world),
         None => Err(Fault::BadWords),
     }
 }
@@ -116,6 +120,31 @@ fn definition<S: Source, O: Sink, E: Sink, F: Files>(
 {
     match read_definition(alloc, &mut world.files, path) {
         Ok(tree) => show(alloc, showing, &tree, &mut world.output),
+        Err(fault) => Err(fault),
+    }
+}
+
+// Reads the sheet at this path, and counts what it has.
+fn sheet<S: Source, O: Sink, E: Sink, F: Files>(
+    alloc: Global,
+    path: &str,
+    world: &mut Desktop<S, O, E, F>,
+) -> Result<(), Fault>
+    requires { AreOpen (⟦<Desktop<S, O, E, F> as World>⟧.ends world.old) }
+    ensures counts { CountsSheet path.now (⟦<Desktop<S, O, E, F> as World>⟧.ends world.old)
+        (⟦<Desktop<S, O, E, F> as World>⟧.ends world.new) result }
+    ensures kept { KeepsOthers (⟦<Desktop<S, O, E, F> as World>⟧.ends world.old)
+        (⟦<Desktop<S, O, E, F> as World>⟧.ends world.new) }
+    ensures open { AreOpen (⟦<Desktop<S, O, E, F> as World>⟧.ends world.new) }
+    ensures faults { world.new.faults ≡ world.old.faults }
+    ensures input { world.new.input ≡ world.old.input }
+{
+    match read_sheet(alloc, &mut world.files, path) {
+        Ok(sheet) => {
+            let shown = show_counts(&sheet, &mut world.output);
+            drop(sheet);
+            shown
+        }
         Err(fault) => Err(fault),
     }
 }

@@ -4,9 +4,12 @@ ghost use Rattle.link_port.specs.Flow.{IsAsBefore};
 ghost use Rattle.varlink_command.specs.Faults.{number_of, refusal_number};
 ghost use Rattle.varlink_command.specs.FaultTexts.{fault_line, fault_text, refusal_text, name_text, wording};
 ghost use Rattle.varlink_command.specs.Lines.{PutsAll};
+ghost use Rattle.sheet_form.specs.declared.faults.SheetFault.{SheetFault};
+ghost use Rattle.varlink_command.specs.declared.faults.Fault.TheVariants.{NoSheet};
 
 use crate::faults::Fault;
 use crate::pieces::put_texts;
+use crate::sheet_lines::write_sheet_line;
 use idl_grammar::IdlFault;
 use idl_token::TokenFault;
 use idl_tree::NameFault;
@@ -37,6 +40,9 @@ pub fn write_fault_line<E: Sink>(faults: &mut E, path: &str, fault: &Fault) -> R
         (E.read_faults faults.old) (E.read_faults faults.new) }
     ensures unfinished { E.finished faults.new ≡ false }
 {
+    if let Fault::NoSheet(why) = fault {
+        return write_sheet_line(faults, why);
+    }
     let mut digits = Buffer::new();
     let text = wording_of(fault, path, digits.format(fault.number()));
     put_texts(
@@ -58,7 +64,8 @@ fn plain(text: &str) -> Wording<'_>
 
 // The text of a fault of a command on this path, its number in these digits.
 fn wording_of<'a>(fault: &'a Fault, path: &'a str, digits: &'a str) -> Wording<'a>
-    requires { digits.now ≡ decimal (number_of fault.now) }
+    requires digits { digits.now ≡ decimal (number_of fault.now) }
+    requires other { (why : SheetFault) → fault.now ≡ NoSheet why → ⊥ }
     ensures { wording result ≡ fault_text path.now fault.now }
 {
     match fault {
@@ -74,6 +81,7 @@ fn wording_of<'a>(fault: &'a Fault, path: &'a str, digits: &'a str) -> Wording<'
             behind: " is too long",
         },
         Fault::NoDefinition(why) => refusal(why, digits),
+        Fault::NoSheet(_) => unreachable!(),
         Fault::Cut { .. } => Wording {
             before: "cut after ",
             middle: digits,
@@ -96,8 +104,8 @@ fn wording_of<'a>(fault: &'a Fault, path: &'a str, digits: &'a str) -> Wording<'
     }
 }
 
-// The text of a refused definition, its number in these digits.
-fn refusal<'a>(why: &'a IdlFault, digits: &'a str) -> Wording<'a>
+/// The text of a refused definition, its number in these digits.
+pub fn refusal<'a>(why: &'a IdlFault, digits: &'a str) -> Wording<'a>
     requires { digits.now ≡ decimal (refusal_number why.now) }
     ensures { wording result ≡ refusal_text why.now }
 {

@@ -1,10 +1,11 @@
 // Why a command did not do what it was asked for, and the status that tells it.
 ghost use Rattle.std.specs.Prelude.{◌≡◌};
-ghost use Rattle.varlink_command.specs.Faults.{status_of, number_of};
+ghost use Rattle.varlink_command.specs.Faults.{status_of, number_of, refusal_number};
 
 use crate::worlds::Status;
 use idl_grammar::IdlFault;
 use idl_token::TokenFault;
+use sheet_form::SheetFault;
 
 /// Why a command did not do what it was asked for.
 #[derive(Drop)]
@@ -17,6 +18,8 @@ pub enum Fault {
     PastLimit,
     /// The file at the path holds no definition. Want of memory is not told by it.
     NoDefinition(IdlFault),
+    /// The file at the path holds no sheet. Want of memory is not told by it.
+    NoSheet(SheetFault),
     /// The input ended with so many bytes after the last whole message.
     Cut {
         /// The number of bytes.
@@ -49,7 +52,7 @@ impl Fault {
     {
         Status(match self {
             Fault::BadWords => 1,
-            Fault::PastLimit | Fault::NoDefinition(_) => 2,
+            Fault::PastLimit | Fault::NoDefinition(_) | Fault::NoSheet(_) => 2,
             Fault::Cut { .. } | Fault::NotCall { .. } | Fault::TooLong { .. } => 3,
             Fault::Unreadable | Fault::ReadFault => 5,
             Fault::WriteFault => 6,
@@ -63,14 +66,22 @@ impl Fault {
         ensures { result ≡ number_of self.now }
     {
         match self {
-            Fault::NoDefinition(
-                IdlFault::Token(TokenFault::NotUtf8 { at } | TokenFault::BadByte { at })
-                | IdlFault::Syntax { at }
-                | IdlFault::TooDeep { at },
-            ) => *at,
+            Fault::NoDefinition(why) => refusal_number(why),
             Fault::Cut { bytes } => *bytes,
             Fault::NotCall { index } | Fault::TooLong { index } => *index,
             _ => 0,
         }
+    }
+}
+
+/// The number in the text of a refused definition; 0 where there is none.
+pub fn refusal_number(why: &IdlFault) -> u64
+    ensures { result ≡ refusal_number why.now }
+{
+    match why {
+        IdlFault::Token(TokenFault::NotUtf8 { at } | TokenFault::BadByte { at })
+        | IdlFault::Syntax { at }
+        | IdlFault::TooDeep { at } => *at,
+        _ => 0,
     }
 }

@@ -9,6 +9,8 @@ mod reading;
 mod real_files;
 mod real_streams;
 mod services;
+mod sheet_lines;
+mod sheets;
 mod showing;
 mod words;
 mod worlds;

@@ -13,6 +13,8 @@ pub enum Command {
     Check,
     /// Prints a definition in its canonical text.
     Format,
+    /// Checks a sheet, and counts what it has.
+    Sheet,
 }
 
 /// The command that these words mean.
@@ -34,6 +36,7 @@ fn command_on_path(word: &str) -> Option<Command>
     match word {
         "check" => Some(Command::Check),
         "format" => Some(Command::Format),
+        "sheet" => Some(Command::Sheet),
         _ => None,
     }
 }
