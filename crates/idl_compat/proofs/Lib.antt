@@ -1,2 +1,10 @@
 pub mod Chains
+pub mod ByKinds
+pub mod Looking
+pub mod Numbering
 pub mod Reading
+pub mod SideBySide
+pub mod Visiting
+pub mod Walked
+pub mod Growing
+pub mod Ordering

@@ -68,6 +68,10 @@ abbrev pub is_enum : Body-F Body Core Field TypeRef → Bool
 is_enum (Body-F.Struct fields ending) = false
 is_enum (Body-F.Enum names ending) = true
 
+abbrev pub enum_or_none : Option Body → Bool
+enum_or_none None = false
+enum_or_none (Some body) = is_enum (out-Body body)
+
 abbrev pub nothing_where : Bool → Line
 nothing_where holds = if holds then nothing else fails
 
