@@ -13,5 +13,5 @@ pub use expressions::made;
 pub use faults::Unformed;
 pub use grounds::Ground;
 pub use laws::{expressions_made_give, references_have_types};
-pub use places::Places;
+pub use places::{Places, put_first};
 pub use references::ref_formed;

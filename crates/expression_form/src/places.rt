@@ -36,8 +36,8 @@ impl Places {
     }
 }
 
-// Puts a place at a name that has none.
-fn put_first(
+/// Puts a place at a name that has none; a name that has one keeps it.
+pub fn put_first(
     alloc: Global,
     places: &mut BTreeMap<String, usize>,
     name: &str,
