@@ -2,4 +2,5 @@ pub mod Names
 pub mod OneAnswer
 pub mod OneSheet
 pub mod Passing
+pub mod RulePlaces
 pub mod RulesTyped

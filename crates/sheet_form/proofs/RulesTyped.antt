@@ -1,5 +1,7 @@
 -- rules that are formed are typed, and the faults of others are told
-use Rattle.std.proofs.Common.{◌≡◌, ◌≢◌, Bool, true, ◌&&◌, List, [], ◌∷◌, ◌++◌, Result, Ok, Err, refl, sym, ap, ◌∙◌}
+use Rattle.std.proofs.Common.{◌≡◌, ◌≢◌, true, false, ◌&&◌, List, [], ◌∷◌, ◌++◌, None, slice_get, length, Result, Ok, Err, refl, sym, ap, ◌∙◌, inl, inr}
+use Rattle.std.proofs.lemmas.Bool.{and_from, and_parts, cases_lt, lt-ltb}
+use Rattle.std.proofs.lemmas.Option.{slice_get_past}
 use Rattle.std.proofs.lemmas.List.Folds.{list_all-append}
 use Rattle.std.specs.List.{list_all}
 use Rattle.idl_tree.specs.Names.{Bytes}
@@ -13,7 +15,8 @@ use Rattle.rule_form.specs.Rules.{rule_formed}
 use Rattle.rule_form.specs.declared.faults.RuleFault.{RuleFault}
 use Rattle.rule_form.specs.declared.faults.RuleFault.TheVariants as rule
 use Rattle.rule_form.proofs.Typed.{formed_is_typed}
-use Rattle.sheet_form.specs.Rules.{rule_fault, rule_told, rule_at, rules_from, AreTyped}
+use Rattle.sheet_form.specs.RulePlaces.{is_within}
+use Rattle.sheet_form.specs.Rules.{rule_fault, rule_told, rules_from, AreTyped}
 use Rattle.sheet_form.specs.declared.faults.SheetFault.{SheetFault}
 use Rattle.sheet_form.specs.declared.faults.SheetFault.TheVariants.{Memory}
 
@@ -44,3 +47,19 @@ module _ (interfaces : List Interface) (registers : List Register) where
   typed_rules before (draft ∷ drafts) rules h (made, told, rest) =
       typed_rules (before ++ made ∷ []) drafts rules
       (all_more before made h (typed_by draft made (rule_formed interfaces registers draft) refl told)) rest
+
+  typed_within : (rule : Rule) → rule_is_typed interfaces registers rule ≡ true → is_within (length interfaces) rule ≡ true
+  typed_within rule h =
+      elim (cases_lt rule.interface (length interfaces)) [
+        | inl within ↦ lt-ltb rule.interface (length interfaces) within
+        | inr past ↦ (let none : slice_get interfaces rule.interface ≡ None = slice_get_past interfaces rule.interface past in
+            let no : false ≡ true = rw none at h in absurd (cc))
+      ]
+
+  -- each typed rule is of an interface that is there
+  pub all_within : (rules : List Rule) → AreTyped interfaces registers rules → list_all (is_within (length interfaces)) rules ≡ true
+  all_within [] h = refl
+  all_within (rule ∷ rules) h =
+      let parts = and_parts (rule_is_typed interfaces registers rule) (list_all (rule_is_typed interfaces registers) rules) h in
+      and_from (is_within (length interfaces) rule) (list_all (is_within (length interfaces)) rules)
+      (typed_within rule parts.0) (all_within rules parts.1)

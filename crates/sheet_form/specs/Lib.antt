@@ -1,5 +1,6 @@
 pub mod Answers
 pub mod Interfaces
 pub mod Registers
+pub mod RulePlaces
 pub mod Rules
 pub mod Sheets

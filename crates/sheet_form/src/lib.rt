@@ -5,6 +5,7 @@ mod faults;
 mod interfaces;
 mod laws;
 mod registers;
+mod rule_places;
 mod rules;
 mod sheets;
 

@@ -1,7 +1,8 @@
 // Whole sheets.
 ghost use Rattle.std.specs.Prelude.{◌≡◌, List, Result};
 ghost use Rattle.rule_form.specs.Rules.{interface_place};
-ghost use Rattle.sheet_form.specs.Answers.{Reads, Same};
+ghost use Rattle.sheet_form.specs.Answers.{Reads, Same, done};
+ghost use Rattle.sheet_form.specs.RulePlaces.{rule_place};
 ghost use Rattle.sheet_form.specs.Rules.{AreTyped};
 ghost use Rattle.sheet_form.specs.Sheets.{draft_fault, sheet_behind, sheet_of, tables_of};
 ghost use Rattle.sheet_form.specs.declared.faults.SheetFault.{SheetFault};
@@ -10,6 +11,7 @@ ghost use Rattle.sheet_form.specs.declared.sheets.Contents.{Contents};
 use crate::faults::SheetFault;
 use crate::interfaces::{Interfaces, read_interfaces};
 use crate::registers::read_registers;
+use crate::rule_places::RulePlaces;
 use crate::rules::read_rules;
 use idl_tree::Checked;
 use link_port::{List, Text};
@@ -35,9 +37,12 @@ pub struct Contents {
 #[derive(Drop)]
 pub struct Sheet {
     contents: Contents,
+    // Where the rule of each method stands.
+    places: RulePlaces,
 }
 
 impl Model for Sheet {
+    ghost use Rattle.sheet_form.specs.RulePlaces.{Tells};
     ghost use Rattle.sheet_form.specs.Rules.{AreTyped};
     ghost use Rattle.sheet_form.specs.declared.sheets.Contents.{Contents};
     ghost use Rattle.sheet_form.specs.contracts.sheets.Contents as stored;
@@ -49,7 +54,8 @@ impl Model for Sheet {
     ghost view = { λ sheet. sheet.contents };
 
     ghost invariant = { λ sheet.
-        AreTyped sheet.contents.interfaces sheet.contents.registers sheet.contents.rules };
+        AreTyped sheet.contents.interfaces sheet.contents.registers sheet.contents.rules
+        × Tells sheet.places.by_interface.items sheet.contents.rules };
 }
 
 impl Sheet {
@@ -87,6 +93,14 @@ impl Sheet {
         ensures { result ≡ interface_place self.now.interfaces name.now }
     {
         self.contents.interfaces.place(name)
+    }
+
+    /// The place of the rule of this method of the interface of this place, and None exactly where the
+    /// sheet has no such rule. It takes no memory and a time that grows with the logarithm of the methods.
+    pub fn rule_of(&self, interface: u64, method: &str) -> Option<u64>
+        ensures { result ≡ rule_place self.now.rules interface method.now }
+    {
+        self.places.place(interface, method)
     }
 }
 
@@ -133,7 +147,7 @@ fn read_draft(alloc: Global, draft: SheetDraft) -> Result<Sheet, SheetFault>
     match read_tables(alloc, interfaces, registers) {
         Ok((interfaces, registers)) => {
             match read_rules(alloc, &interfaces, registers.as_slice(), rules) {
-                Ok(rules) => Ok(assembled(info, interfaces, registers, rules)),
+                Ok(rules) => assembled(alloc, info, interfaces, registers, rules),
                 Err(fault) => {
                     drop((info, interfaces, registers));
                     Err(fault)
@@ -149,21 +163,29 @@ fn read_draft(alloc: Global, draft: SheetDraft) -> Result<Sheet, SheetFault>
 
 // The sheet that says this.
 fn assembled(
+    alloc: Global,
     info: Info,
     interfaces: Interfaces,
     registers: List<Register>,
     rules: List<Rule>,
-) -> Sheet
+) -> Result<Sheet, SheetFault>
     requires { AreTyped interfaces registers rules }
-    ensures { result ≡ record { info = info; interfaces = interfaces; registers = registers; rules = rules } }
+    ensures { Reads result (done (record { info = info; interfaces = interfaces; registers = registers; rules = rules })) }
 {
-    Sheet {
-        contents: Contents {
-            info,
-            interfaces,
-            registers,
-            rules,
-        },
+    match RulePlaces::of(alloc, interfaces.as_slice().len(), rules.as_slice()) {
+        Ok(places) => Ok(Sheet {
+            contents: Contents {
+                info,
+                interfaces,
+                registers,
+                rules,
+            },
+            places,
+        }),
+        Err(_) => {
+            drop((info, interfaces, registers, rules));
+            Err(SheetFault::Memory)
+        }
     }
 }
 

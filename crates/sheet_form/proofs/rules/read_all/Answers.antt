@@ -1,4 +1,4 @@
-use Rattle.std.proofs.Common.{List, [], ◌∷◌, ◌++◌, Err}
+use Rattle.std.proofs.Common.{[], ◌∷◌, ◌++◌, Err}
 use Rattle.sheet_rules.specs.declared.forms.Rule.{Rule}
 use Rattle.sheet_form.specs.Rules.{rule_at, rules_from}
 use Rattle.sheet_form.proofs.Passing.{passes, follows}

@@ -16,7 +16,9 @@ pub returns-in-Ok-read_rules : goal.returns-in-Ok-read_rules
 returns-in-Ok-read_rules c =
     let read = rw c.as_slice.ensures at c.in-Ok-read_rules.ensures in
     let tables : Tables = (c.in-Ok.interfaces, c.in-Ok.registers) in
-    (tables, c.in-Ok.ensures, (c.in-Ok-read_rules.rules, read, c.assembled.ensures))
+    follows (tables_of c.args.draft.interfaces c.args.draft.registers) (with_rules c.args.draft) tables c.assembled.result c.in-Ok.ensures
+    (follows (rules_of c.in-Ok.interfaces c.in-Ok.registers c.args.draft.rules) (λ (rules : List Rule). done (contents c.args.draft.info tables rules))
+    c.in-Ok-read_rules.rules c.assembled.result read c.assembled.ensures)
 
 pub returns-in-Err-read_rules : goal.returns-in-Err-read_rules
 returns-in-Err-read_rules c =
