@@ -179,7 +179,7 @@ fn text_of(
 
 fn is_told(alloc: Global, text: &str, told: &str) -> bool {
     match read(alloc, text.as_bytes()) {
-        Ok(sheet) => is_counted(alloc, &sheet, told) && has_places(&sheet),
+        Ok(sheet) => is_counted(alloc, &sheet, told) && has_places(&sheet) && has_rules(&sheet),
         Err(fault) => is_fault(alloc, fault, told),
     }
 }
@@ -204,6 +204,16 @@ fn has_places(sheet: &Sheet) -> bool {
         place += 1;
     }
     sheet.interface_of("no.interface").is_none() && sheet.info().url.as_str().is_empty()
+}
+
+// Whether each rule is found at its place.
+fn has_rules(sheet: &Sheet) -> bool {
+    for (place, rule) in sheet.rules().iter().enumerate() {
+        if sheet.rule_of(rule.interface, rule.method.as_str()) != Some(place as u64) {
+            return false;
+        }
+    }
+    sheet.rule_of(0, "NoMethod").is_none() && sheet.rule_of(1000, "Get").is_none()
 }
 
 fn is_fault(alloc: Global, fault: SheetFault, told: &str) -> bool {
