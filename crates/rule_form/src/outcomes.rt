@@ -1,16 +1,15 @@
 // Outcomes by names, formed by the method's reply.
 ghost use Rattle.std.specs.Prelude.{◌≡◌, Some, option_map, option_and_then};
 ghost use Rattle.sheet_rules.specs.Types.{array_part};
-ghost use Rattle.sheet_rules.specs.Outcomes.{same_raw, with_item};
+ghost use Rattle.sheet_rules.specs.Outcomes.{with_item};
 ghost use Rattle.sheet_rules.specs.Views.{typ_of, setting_of};
 ghost use Rattle.expression_form.specs.Forms.{Forms, FormsTyped};
 ghost use Rattle.rule_form.specs.Outcomes.{reply_made, array_formed, over_formed, stream_made, ending_made, same_kind, outcome_made, with_part};
 
-use call_form::Raw;
 use expression_draft::{ExprDraft, RefDraft};
 use expression_form::{Ground, Unformed, made, ref_formed};
 use sheet_draft::EndingDraft;
-use sheet_rules::{Ending, Expr, Ref, Typ, array_part, body_typ};
+use sheet_rules::{Ending, Expr, Ref, Typ, array_part, body_typ, same_raw};
 use std::alloc::Global;
 
 /// The outcome that a draft is, where it is of the kind of the first branch's. `IllTyped` comes
@@ -154,16 +153,6 @@ fn same_kind(one: &EndingDraft, other: &EndingDraft) -> bool
         (EndingDraft::Upgrade { raw: a, .. }, EndingDraft::Upgrade { raw: b, .. }) => same_raw(
             a, b,
         ),
-        _ => false,
-    }
-}
-
-fn same_raw(one: &Raw, other: &Raw) -> bool
-    ensures { result ≡ same_raw one.now other.now }
-{
-    match (one, other) {
-        (Raw::Echo, Raw::Echo) => true,
-        (Raw::Discard, Raw::Discard) => true,
         _ => false,
     }
 }

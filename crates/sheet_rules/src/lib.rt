@@ -19,7 +19,7 @@ pub use actions::{action_is_typed, array_register, map_register};
 pub use conditions::{cond_is_typed, error_body, gives_int, gives_string, guard_is_typed};
 pub use expressions::gives;
 pub use forms::{Action, Branch, Cond, Ending, Expr, Guard, Ref, Register, Rule};
-pub use outcomes::{ending_is_typed, gives_reply, items_of, same_kind, with_item};
+pub use outcomes::{ending_is_typed, gives_reply, items_of, same_kind, same_raw, with_item};
 pub use paths::{field_typ, path_typ, ref_typ, register_typ, struct_fields, typ_body};
 pub use rules::{branch_is_typed, has_one_way, method_of, rule_is_typed, standing};
 pub use sameness::{fits, same};

@@ -85,7 +85,8 @@ pub fn same_kind(one: &Ending, other: &Ending) -> bool
     }
 }
 
-fn same_raw(one: &Raw, other: &Raw) -> bool
+/// Whether two upgrades use raw bytes in the same way.
+pub fn same_raw(one: &Raw, other: &Raw) -> bool
     ensures { result ≡ same_raw one.now other.now }
 {
     match (one, other) {
