@@ -195,12 +195,8 @@ fn sum(alloc: Global, one: ExprDraft, other: ExprDraft) -> Result<ExprDraft, Mem
     }
 }
 
-// Two expressions on the heap.
-fn two_boxes(
-    alloc: Global,
-    one: ExprDraft,
-    other: ExprDraft,
-) -> Result<(Box<ExprDraft>, Box<ExprDraft>), Memory>
+/// Two parts of an expression on the heap.
+pub fn two_boxes<T: Drop>(alloc: Global, one: T, other: T) -> Result<(Box<T>, Box<T>), Memory>
     ensures { IfOk result (λ boxes. boxes ≡ (one, other)) }
 {
     match Box::new(alloc, one) {

@@ -13,7 +13,7 @@ mod texts;
 
 pub use conditions::{next_cond, read_cond};
 pub use drafts::{CondDraft, ExprDraft, RefDraft};
-pub use expressions::{next_expr, read_expr};
+pub use expressions::{next_expr, read_expr, two_boxes};
 pub use faults::Misfit;
 pub use members::{Items, Members, sole_item, sole_member, whole};
 pub use references::{next_ref, read_ref};

@@ -1,5 +1,5 @@
 // Expressions by names, formed by types.
-ghost use Rattle.std.specs.Prelude.{◌≡◌, Option, Some, map, option_and_then, option_map, IfOk};
+ghost use Rattle.std.specs.Prelude.{◌≡◌, Option, Some, map, option_and_then, option_map};
 ghost use Rattle.typed_value.specs.Gives.{Gives};
 ghost use Rattle.typed_value.specs.Reads.{reader};
 ghost use Rattle.sheet_rules.specs.Types.{array_part, struct_fields};
@@ -13,9 +13,9 @@ ghost use Rattle.expression_form.specs.Expressions.{made, fitting, has_length, w
 use crate::faults::Unformed;
 use crate::grounds::Ground;
 use crate::references::ref_formed;
-use expression_draft::{ExprDraft, RefDraft};
+use expression_draft::{ExprDraft, RefDraft, two_boxes};
 use idl_tree::{Checked, Core, Field};
-use link_port::{Box, List, Memory, Text, Value};
+use link_port::{Box, List, Text, Value};
 use sheet_rules::{
     Expr, Kind, Ref, Typ, array_part, fits, int_typ, is_int, map_part, string_typ, struct_fields,
     type_in, without_maybe,
@@ -203,7 +203,7 @@ fn both(
 {
     match one {
         Ok(one) => match other {
-            Ok(other) => Ok(boxed(alloc, one, other)?),
+            Ok(other) => Ok(two_boxes(alloc, one, other)?),
             Err(fault) => {
                 drop(one);
                 Err(fault)
@@ -212,24 +212,6 @@ fn both(
         Err(fault) => {
             drop(other);
             Err(fault)
-        }
-    }
-}
-
-fn boxed(alloc: Global, one: Expr, other: Expr) -> Result<(Box<Expr>, Box<Expr>), Memory>
-    ensures { IfOk result (λ both. both ≡ (one, other)) }
-{
-    match Box::new(alloc, one) {
-        Ok(one) => match Box::new(alloc, other) {
-            Ok(other) => Ok((one, other)),
-            Err(memory) => {
-                drop(one);
-                Err(memory)
-            }
-        },
-        Err(memory) => {
-            drop(other);
-            Err(memory)
         }
     }
 }
