@@ -1,3 +1,5 @@
+pub mod Fits
 pub mod Given
+pub mod Kinds
 pub mod Laws
 pub mod Ready
