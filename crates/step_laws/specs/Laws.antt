@@ -1,6 +1,7 @@
 -- What the types of a sheet's rules say comes about, where registers and parameters are values of their types.
-use Rattle.std.specs.Prelude.{◌≡◌, ℕ, Bool, true, List, map, Some, IsSome, slice_get}
+use Rattle.std.specs.Prelude.{◌≡◌, ℕ, Bool, true, List, [], ◌∷◌, map, Some, None, IsSome, slice_get}
 use Rattle.std.specs.List.{list_all}
+use Rattle.idl_tree.specs.Names.{Bytes}
 use Rattle.idl_tree.specs.declared.trees.Interface.{Interface}
 use Rattle.idl_tree.specs.declared.trees.Body.{Body}
 use Rattle.typed_value.specs.OfType.{is_of_body}
@@ -11,6 +12,7 @@ use Rattle.sheet_rules.specs.Gives.{gives}
 use Rattle.sheet_rules.specs.Conditions.{cond_is_typed}
 use Rattle.sheet_rules.specs.Steps.{step_is_typed}
 use Rattle.sheet_rules.specs.declared.forms.Register.{Register}
+use Rattle.sheet_rules.specs.declared.forms.Branch.{Branch}
 use Rattle.sheet_rules.specs.declared.forms.Rule.{Rule}
 use Rattle.sheet_rules.specs.declared.forms.Ref.{Ref}
 use Rattle.sheet_rules.specs.declared.forms.Expr.{Expr}
@@ -21,7 +23,7 @@ use Rattle.rule_values.specs.Meanings.{Env, found, meaning}
 use Rattle.rule_values.specs.Conditions.{truth}
 use Rattle.sheet_step.specs.Levels.{are_within}
 use Rattle.sheet_step.specs.Registers.{seen, after_steps}
-use Rattle.sheet_step.specs.Step.{step}
+use Rattle.sheet_step.specs.Step.{step_of, step}
 use Rattle.sheet_step.specs.declared.dones.Done.{Done}
 use Rattle.step_laws.specs.Fits.{Fits}
 use Rattle.step_laws.specs.Given.{ThereIs, IsGiven, InPlace}
@@ -64,6 +66,11 @@ begins_typed interfaces register = is_of_typ interfaces (type_in register.scope 
 abbrev pub BeginsOfTypes : Type 0
 BeginsOfTypes = (interfaces : List Interface) (registers : List Register) → list_all (begins_typed interfaces) registers ≡ true
     → are_of_types interfaces registers (map (λ (register : Register). register.initial) registers) ≡ true
+
+-- a rule of one branch without condition does what the branch does
+abbrev pub DoesAsBranch : Type 0
+DoesAsBranch = (interface : Bytes) (branch : Branch) (parameters : Val) (values : List Val) → branch.when ≡ None
+    → step interface (branch ∷ []) parameters values ≡ step_of interface branch parameters values
 
 -- a rule has a result
 abbrev pub Runs : Type 0

@@ -1,6 +1,6 @@
 // Laws of typed rules, of which contracts can make use. The functions do nothing.
 ghost use Rattle.step_laws.specs.Laws.{LeadsToValues, RefersToValues, FitsValues, GivesValues};
-ghost use Rattle.step_laws.specs.Laws.{TellsConditions, StepsKeepTypes, BeginsOfTypes};
+ghost use Rattle.step_laws.specs.Laws.{TellsConditions, StepsKeepTypes, BeginsOfTypes, DoesAsBranch};
 ghost use Rattle.step_laws.specs.Laws.{Runs, KeepsTypes, KeepsLevels, ComesToFit};
 
 /// The law that a path of fields leads from a value of a type to a value of the type to which it leads
@@ -39,6 +39,12 @@ pub fn steps_keep_types()
 /// The law that the initial values are values of the registers' types, where each register's is.
 pub fn initial_values_are_of_types()
     ensures { BeginsOfTypes }
+{}
+
+/// The law that a rule of one branch without condition, as each of a sheet of version 1, does what the
+/// branch does.
+pub fn sole_branches_are_the_rule()
+    ensures { DoesAsBranch }
 {}
 
 /// The law that a typed rule runs: of its branches one is taken, and all that it refers to is there.

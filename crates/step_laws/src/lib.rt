@@ -9,5 +9,5 @@ pub use laws::{
     conditions_are_told, expressions_have_values, fitting_types_have_the_values,
     initial_values_are_of_types, outcomes_fit_their_rules, paths_lead_to_values,
     references_have_values, registers_keep_their_levels, registers_keep_their_types,
-    steps_keep_types, typed_rules_run,
+    sole_branches_are_the_rule, steps_keep_types, typed_rules_run,
 };
