@@ -1,5 +1,5 @@
 -- a rule that is formed is typed
-use Rattle.std.proofs.Common.{◌≡◌, ℕ, zero, suc, Bool, true, false, ◌&&◌, not, List, [], ◌∷◌, Option, Some, None, is_some, option_map, option_and_then, slice_get, Result, Ok, Err, refl, sym, ap, ◌∙◌, subst}
+use Rattle.std.proofs.Common.{◌≡◌, ℕ, suc, Bool, true, false, ◌&&◌, not, List, [], ◌∷◌, Option, Some, None, is_some, option_map, option_and_then, slice_get, map, Result, Ok, Err, refl, sym, ap, ◌∙◌, subst}
 use Rattle.std.specs.List.{list_all}
 use Rattle.idl_tree.specs.Names.{Bytes}
 use Rattle.idl_tree.specs.Faults.{method_named, error_named}
@@ -10,7 +10,7 @@ use Rattle.call_form.specs.declared.Raw.TheVariants.{Echo, Discard}
 use Rattle.sheet_rules.specs.Types.{Typ, body_typ, int_typ, string_typ, array_part, map_part, maybe_part, passes}
 use Rattle.sheet_rules.specs.Settings.{Setting, register_typ, ref_typ}
 use Rattle.sheet_rules.specs.Gives.{gives}
-use Rattle.sheet_rules.specs.Conditions.{cond_step, cond_is_typed, is_given, is_maybe, is_map, gives_int, gives_string, gives_error, guard_is_typed}
+use Rattle.sheet_rules.specs.Conditions.{cond_is_typed, is_given, is_maybe, is_map, gives_int, gives_string, gives_error, guard_is_typed}
 use Rattle.sheet_rules.specs.Steps.{step_is_typed}
 use Rattle.sheet_rules.specs.Outcomes as o
 use Rattle.sheet_rules.specs.Outcomes.{with_item, is_no_item, same_raw, gives_reply, ending_is_typed}
@@ -52,14 +52,14 @@ use Rattle.expression_form.proofs.Typed.{RefHas, ref_has}
 use Rattle.expression_form.proofs.MadeGives.{made_gives}
 use Rattle.rule_form.specs.Answers.{◌>>=◌, or_fault, formed_at}
 use Rattle.rule_form.specs.Misses.{cond_misses, guard_misses, step_misses, ending_misses}
-use Rattle.rule_form.specs.Floats.{method_floats, error_floats}
+use Rattle.rule_form.specs.Floats.{method_floats, error_floats, guard_has_no_float, branch_has_no_float, rule_has_no_float}
 use Rattle.rule_form.specs.Conditions as c
 use Rattle.rule_form.specs.Conditions.{joined, with_typ, equal_made, less_made, present_made, has_made, cond_made, error_made, guard_of, guard_made}
 use Rattle.rule_form.specs.Steps.{placed, register_named, array_named, map_named, step_made}
-use Rattle.rule_form.specs.Outcomes.{reply_made, with_part, array_formed, over_formed, stream_made, ending_made, same_kind, outcome_made}
+use Rattle.rule_form.specs.Outcomes.{reply_made, with_part, over_formed, stream_made, ending_made, same_kind, outcome_made}
 use Rattle.rule_form.specs.Rules.{when_formed, guard_formed, step_formed, outcome_formed, each_formed, branch_formed, branches_formed, setting_at, draft_setting, interface_place, rule_of, formed_in, rule_formed, has_one_way}
 use Rattle.rule_form.specs.declared.faults.RuleFault.{RuleFault}
-use Rattle.rule_form.specs.declared.faults.RuleFault.TheVariants.{NoSuchMethod, Float, IllTyped}
+use Rattle.rule_form.specs.declared.faults.RuleFault.TheVariants.{NoSuchMethod}
 
 -- what holds of what is made, where something is
 abbrev Made : {A : Type 0} → (A → Type 0) → Option A → Type 0
@@ -165,16 +165,21 @@ module _ (s : Setting) where
 
   -- ---- guards
 
-  abbrev GuardTyped : Guard → Type 0
-  GuardTyped x = guard_is_typed s x ≡ true
+  -- a guard is typed, and its error does not reach `float`
+  abbrev GuardHas : Guard → Type 0
+  GuardHas x = (guard_is_typed s x ≡ true) × (guard_has_no_float s x ≡ true)
 
   error_in : (x : ExprDraft) (found : Option Body)
       → Made (λ y. passes (λ body. gives s y (body_typ s.scope body)) found ≡ true) (option_and_then (λ body. made s x (body_typ s.scope body)) found)
   error_in x None = tt
   error_in x (Some body) = given s x (body_typ s.scope body)
 
-  guard_typed : (d : GuardDraft) → Made GuardTyped (guard_made s d)
-  guard_typed d = joined_has (guard_of d.error) CondTyped (λ y. gives_error s d.error y ≡ true) GuardTyped (λ x y h k. rw (h, k) refl)
+  guard_parts : (d : GuardDraft) → error_floats s d.error ≡ false → (x : Cond) (y : Expr) → CondTyped x → gives_error s d.error y ≡ true
+      → GuardHas (guard_of d.error x y)
+  guard_parts d is x y h k = (rw (h, k) refl, ap not is)
+
+  guard_has : (d : GuardDraft) → error_floats s d.error ≡ false → Made GuardHas (guard_made s d)
+  guard_has d is = joined_has (guard_of d.error) CondTyped (λ y. gives_error s d.error y ≡ true) GuardHas (guard_parts d is)
       (cond_made s d.need) (error_made s d.error d.with) (cond_typed d.need)
       (error_in d.with (option_and_then (error_named d.error) (slice_get s.interfaces s.scope)))
 
@@ -406,6 +411,13 @@ at_has P here false true found h = tt
 at_has P here false false None h = tt
 at_has P here false false (Some x) h = h
 
+-- what holds where `float` is not reached
+plain_has : {A : Type 0} (P : A → Type 0) (here : Spot) (misses floats : Bool) (found : Option A) → (floats ≡ false → Made P found)
+    → Formed P (formed_at here misses floats found)
+plain_has P here true floats found h = tt
+plain_has P here false true found h = tt
+plain_has P here false false found h = at_has P here false false found (h refl)
+
 -- each item holds with what it is formed from
 abbrev Pairs : {A B : Type 0} → (A → B → Type 0) → List A → List B → Type 0
 Pairs holds [] [] = Unit {0}
@@ -441,6 +453,13 @@ all_formed test xs (Ok ys) h = all_hold test xs ys h
 
 -- ---- branches
 
+-- a branch has a condition
+abbrev pub asks : Branch → Bool
+asks branch = is_some branch.when
+
+abbrev pub draft_asks : BranchDraft → Bool
+draft_asks branch = is_some branch.when
+
 module _ (s : Setting) (first : EndingDraft) where
   abbrev WhenHas : Option CondDraft → Option Cond → Type 0
   WhenHas d x = (when_is_typed s x ≡ true) × (is_some x ≡ is_some d)
@@ -454,10 +473,25 @@ module _ (s : Setting) (first : EndingDraft) where
   when_has b (Some d) = at_has (WhenHas (Some d)) (spot.When b) (cond_misses s.registers d) false (option_map Some (cond_made s d))
       (when_some d (cond_made s d) (cond_typed s d))
 
-  guards_have : (b : ℕ) (ds : List GuardDraft) → Formed (λ xs. list_all (guard_is_typed s) xs ≡ true) (each_formed (guard_formed s b) 0 ds)
-  guards_have b ds = all_formed (guard_is_typed s) ds (each_formed (guard_formed s b) 0 ds)
-      (each_pairs (λ d x. guard_is_typed s x ≡ true) (guard_formed s b)
-      (λ k d. at_has (GuardTyped s) (spot.Guard b k) (guard_misses s.registers d) (error_floats s d.error) (guard_made s d) (guard_typed s d)) 0 ds)
+  abbrev GuardsHave : List Guard → Type 0
+  GuardsHave xs = (list_all (guard_is_typed s) xs ≡ true) × (list_all (guard_has_no_float s) xs ≡ true)
+
+  all_guards : (ds : List GuardDraft) (xs : List Guard) → Pairs (λ d x. GuardHas s x) ds xs → GuardsHave xs
+  all_guards [] [] h = (refl, refl)
+  all_guards [] (x ∷ xs) h = absurd h
+  all_guards (d ∷ ds) [] h = absurd h
+  all_guards (d ∷ ds) (x ∷ xs) h =
+      let rest = all_guards ds xs h.1 in (rw (h.0.0, rest.0) refl, rw (h.0.1, rest.1) refl)
+
+  guards_in : (ds : List GuardDraft) (found : Result (List Guard) RuleFault) → Formed (Pairs (λ d x. GuardHas s x) ds) found
+      → Formed GuardsHave found
+  guards_in ds (Err fault) h = tt
+  guards_in ds (Ok xs) h = all_guards ds xs h
+
+  guards_have : (b : ℕ) (ds : List GuardDraft) → Formed GuardsHave (each_formed (guard_formed s b) 0 ds)
+  guards_have b ds = guards_in ds (each_formed (guard_formed s b) 0 ds)
+      (each_pairs (λ d x. GuardHas s x) (guard_formed s b)
+      (λ k d. plain_has (GuardHas s) (spot.Guard b k) (guard_misses s.registers d) (error_floats s d.error) (guard_made s d) (guard_has s d)) 0 ds)
 
   steps_have : (b : ℕ) (ds : List ActionDraft) → Formed (λ xs. list_all (step_is_typed s) xs ≡ true) (each_formed (step_formed s b) 0 ds)
   steps_have b ds = all_formed (step_is_typed s) ds (each_formed (step_formed s b) 0 ds)
@@ -467,9 +501,10 @@ module _ (s : Setting) (first : EndingDraft) where
   outcome_has : (b : ℕ) (d : EndingDraft) → Formed (Ends s first) (outcome_formed s first b d)
   outcome_has b d = at_has (Ends s first) (spot.Outcome b) (ending_misses s.registers d) false (outcome_made s first d) (outcome_ends s first d)
 
-  -- a branch is typed, has a condition where its draft has one, and is of the first one's form
+  -- a branch is typed without `float`, has a condition where its draft has one, and is of the first one's form
   pub record Holds (d : BranchDraft) (x : Branch) : Type 0 where
     pub typed : branch_is_typed s x ≡ true
+    pub plain : branch_has_no_float s x ≡ true
     pub way : is_some x.when ≡ is_some d.when
     pub of_form : form x.outcome ≡ draft_form first
 
@@ -477,13 +512,13 @@ module _ (s : Setting) (first : EndingDraft) where
   branch_of when guards steps outcome = record { when = when; guards = guards; steps = steps; outcome = outcome }
 
   outcome_step : (d : BranchDraft) (when : Option Cond) (guards : List Guard) (steps : List Action) → WhenHas d.when when
-      → list_all (guard_is_typed s) guards ≡ true → list_all (step_is_typed s) steps ≡ true
+      → GuardsHave guards → list_all (step_is_typed s) steps ≡ true
       → (outcome : Result Ending RuleFault) → Formed (Ends s first) outcome
       → Formed (Holds d) (outcome >>= λ x. Ok (branch_of when guards steps x))
   outcome_step d when guards steps w g t (Err fault) h = tt
-  outcome_step d when guards steps w g t (Ok x) h = record { typed = rw (w.0, g, t, h.0) refl; way = w.1; of_form = h.1 }
+  outcome_step d when guards steps w g t (Ok x) h = record { typed = rw (w.0, g.0, t, h.0) refl; plain = g.1; way = w.1; of_form = h.1 }
 
-  steps_step : (d : BranchDraft) (when : Option Cond) (guards : List Guard) → WhenHas d.when when → list_all (guard_is_typed s) guards ≡ true
+  steps_step : (d : BranchDraft) (when : Option Cond) (guards : List Guard) → WhenHas d.when when → GuardsHave guards
       → (steps : Result (List Action) RuleFault) → Formed (λ xs. list_all (step_is_typed s) xs ≡ true) steps
       → (outcome : Result Ending RuleFault) → Formed (Ends s first) outcome
       → Formed (Holds d) (steps >>= λ xs. outcome >>= λ x. Ok (branch_of when guards xs x))
@@ -491,7 +526,7 @@ module _ (s : Setting) (first : EndingDraft) where
   steps_step d when guards w g (Ok xs) t outcome h = outcome_step d when guards xs w g t outcome h
 
   guards_step : (d : BranchDraft) (when : Option Cond) → WhenHas d.when when
-      → (guards : Result (List Guard) RuleFault) → Formed (λ xs. list_all (guard_is_typed s) xs ≡ true) guards
+      → (guards : Result (List Guard) RuleFault) → Formed GuardsHave guards
       → (steps : Result (List Action) RuleFault) → Formed (λ xs. list_all (step_is_typed s) xs ≡ true) steps
       → (outcome : Result Ending RuleFault) → Formed (Ends s first) outcome
       → Formed (Holds d) (guards >>= λ gs. steps >>= λ xs. outcome >>= λ x. Ok (branch_of when gs xs x))
@@ -499,7 +534,7 @@ module _ (s : Setting) (first : EndingDraft) where
   guards_step d when w (Ok gs) g steps t outcome h = steps_step d when gs w g steps t outcome h
 
   when_step : (d : BranchDraft) (when : Result (Option Cond) RuleFault) → Formed (WhenHas d.when) when
-      → (guards : Result (List Guard) RuleFault) → Formed (λ xs. list_all (guard_is_typed s) xs ≡ true) guards
+      → (guards : Result (List Guard) RuleFault) → Formed GuardsHave guards
       → (steps : Result (List Action) RuleFault) → Formed (λ xs. list_all (step_is_typed s) xs ≡ true) steps
       → (outcome : Result Ending RuleFault) → Formed (Ends s first) outcome
       → Formed (Holds d) (when >>= λ w. guards >>= λ gs. steps >>= λ xs. outcome >>= λ x. Ok (branch_of w gs xs x))
@@ -518,6 +553,12 @@ module _ (s : Setting) (first : EndingDraft) where
   typed_all [] (x ∷ xs) h = absurd h
   typed_all (d ∷ ds) [] h = absurd h
   typed_all (d ∷ ds) (x ∷ xs) h = rw (h.0.typed, typed_all ds xs h.1) refl
+
+  plain_all : (ds : List BranchDraft) (xs : List Branch) → Pairs Holds ds xs → list_all (branch_has_no_float s) xs ≡ true
+  plain_all [] [] h = refl
+  plain_all [] (x ∷ xs) h = absurd h
+  plain_all (d ∷ ds) [] h = absurd h
+  plain_all (d ∷ ds) (x ∷ xs) h = rw (h.0.plain, plain_all ds xs h.1) refl
 
   kinds_all : (head : Branch) → form head.outcome ≡ draft_form first → (ds : List BranchDraft) (xs : List Branch) → Pairs Holds ds xs
       → list_all (is_of_kind head) xs ≡ true
@@ -542,29 +583,41 @@ module _ (s : Setting) (first : EndingDraft) where
   ways_all (d ∷ (e ∷ es)) (x ∷ []) h = absurd h.1
   ways_all (d ∷ (e ∷ es)) (x ∷ (y ∷ ys)) h = rw (h.0.way, ways_all (e ∷ es) (y ∷ ys) h.1) refl
 
+  asks_all : (ds : List BranchDraft) (xs : List Branch) → Pairs Holds ds xs → map asks xs ≡ map draft_asks ds
+  asks_all [] [] h = refl
+  asks_all [] (x ∷ xs) h = absurd h
+  asks_all (d ∷ ds) [] h = absurd h
+  asks_all (d ∷ ds) (x ∷ xs) h = λ j. h.0.way j ∷ asks_all ds xs h.1 j
+
 -- ---- rules
 
 record Whole (s : Setting) (ds : List BranchDraft) (xs : List Branch) : Type 0 where
   pub typed : (list_all (branch_is_typed s) xs && one_kind xs) ≡ true
+  pub plain : list_all (branch_has_no_float s) xs ≡ true
   pub ways : rules.has_one_way xs ≡ has_one_way ds
+  pub asks : map asks xs ≡ map draft_asks ds
 
 whole_of : (s : Setting) (first : EndingDraft) (ds : List BranchDraft) (found : Result (List Branch) RuleFault)
     → Formed (Pairs (Holds s first) ds) found → Formed (Whole s ds) found
 whole_of s first ds (Err fault) h = tt
 whole_of s first ds (Ok xs) h = record {
   typed = rw (typed_all s first ds xs h, one_kind_all s first ds xs h) refl;
+  plain = plain_all s first ds xs h;
   ways = ways_all s first ds xs h;
+  asks = asks_all s first ds xs h;
 }
 
 branches_whole : (s : Setting) (ds : List BranchDraft) → Formed (Whole s ds) (branches_formed s ds)
-branches_whole s [] = record { typed = refl; ways = refl }
+branches_whole s [] = record { typed = refl; plain = refl; ways = refl; asks = refl }
 branches_whole s (d ∷ ds) = whole_of s d.outcome (d ∷ ds) (each_formed (branch_formed s d.outcome) 0 (d ∷ ds))
     (each_pairs (Holds s d.outcome) (branch_formed s d.outcome) (branch_holds s d.outcome) 0 (d ∷ ds))
 
 module _ (interfaces : List Interface) (registers : List Register) where
   record RuleHolds (d : RuleDraft) (rule : Rule) : Type 0 where
     pub typed : rule_is_typed interfaces registers rule ≡ true
+    pub plain : rule_has_no_float interfaces registers rule ≡ true
     pub ways : rules.has_one_way rule.branches ≡ has_one_way d.branches
+    pub asks : map asks rule.branches ≡ map draft_asks d.branches
 
   abbrev Set : RuleDraft → Setting → Type 0
   Set d s = setting_at interfaces registers d.method s.scope ≡ Some s
@@ -579,14 +632,15 @@ module _ (interfaces : List Interface) (registers : List Register) where
   set_at d None = tt
   set_at d (Some place) = set_in d.method place (option_and_then (method_named d.method) (slice_get interfaces place)) refl
 
-  rule_holds : (d : RuleDraft) (s : Setting) → Set d s → (found : Result (List Branch) RuleFault) → Formed (Whole s d.branches) found
+  rule_holds : (d : RuleDraft) (s : Setting) → Set d s → method_floats s ≡ false
+      → (found : Result (List Branch) RuleFault) → Formed (Whole s d.branches) found
       → Formed (RuleHolds d) (found >>= λ xs. Ok (rule_of d s.scope xs))
-  rule_holds d s is (Err fault) h = tt
-  rule_holds d s is (Ok xs) h = record { typed = rw is h.typed; ways = h.ways }
+  rule_holds d s is plain (Err fault) h = tt
+  rule_holds d s is plain (Ok xs) h = record { typed = rw is h.typed; plain = rw (is, plain, h.plain) refl; ways = h.ways; asks = h.asks }
 
   floats_or : (d : RuleDraft) (s : Setting) → Set d s → (b : Bool) → method_floats s ≡ b → Formed (RuleHolds d) (formed_in d s)
   floats_or d s is true h = rw h tt
-  floats_or d s is false h = rw h (rule_holds d s is (branches_formed s d.branches) (branches_whole s d.branches))
+  floats_or d s is false h = rw h (rule_holds d s is h (branches_formed s d.branches) (branches_whole s d.branches))
 
   in_setting : (d : RuleDraft) (found : Option Setting) → Made (Set d) found → Formed (RuleHolds d) (or_fault NoSuchMethod found >>= formed_in d)
   in_setting d None h = tt
@@ -602,6 +656,15 @@ module _ (interfaces : List Interface) (registers : List Register) where
   pub formed_is_typed : (d : RuleDraft) (rule : Rule) → rule_formed interfaces registers d ≡ Ok rule → rule_is_typed interfaces registers rule ≡ true
   formed_is_typed d rule is = (of_formed d (rule_formed interfaces registers d) (formed_holds d) rule is).typed
 
+  pub formed_has_no_float : (d : RuleDraft) (rule : Rule) → rule_formed interfaces registers d ≡ Ok rule
+      → rule_has_no_float interfaces registers rule ≡ true
+  formed_has_no_float d rule is = (of_formed d (rule_formed interfaces registers d) (formed_holds d) rule is).plain
+
   pub formed_has_one_way : (d : RuleDraft) (rule : Rule) → rule_formed interfaces registers d ≡ Ok rule
       → rules.has_one_way rule.branches ≡ has_one_way d.branches
   formed_has_one_way d rule is = (of_formed d (rule_formed interfaces registers d) (formed_holds d) rule is).ways
+
+  -- its branches have conditions where those of its draft have them
+  pub formed_asks : (d : RuleDraft) (rule : Rule) → rule_formed interfaces registers d ≡ Ok rule
+      → map asks rule.branches ≡ map draft_asks d.branches
+  formed_asks d rule is = (of_formed d (rule_formed interfaces registers d) (formed_holds d) rule is).asks

@@ -1,5 +1,5 @@
 -- Conditions and guards by names, formed by types.
-use Rattle.std.specs.Prelude.{Bool, is_some, Option, Some, None, option_map, option_and_then, slice_get}
+use Rattle.std.specs.Prelude.{is_some, Option, Some, option_map, option_and_then, slice_get}
 use Rattle.idl_tree.specs.Names.{Bytes}
 use Rattle.idl_tree.specs.Faults.{error_named}
 use Rattle.sheet_rules.specs.Types.{Typ, body_typ, int_typ, string_typ, map_part, maybe_part}

@@ -7,7 +7,7 @@ use Rattle.sheet_rules.specs.Rules as rules
 use Rattle.sheet_rules.specs.declared.forms.Register.{Register}
 use Rattle.sheet_rules.specs.declared.forms.Rule.{Rule}
 use Rattle.sheet_draft.specs.declared.drafts.RuleDraft.{RuleDraft}
-use Rattle.rule_form.specs.Floats.{reaches_float}
+use Rattle.rule_form.specs.Floats.{reaches_float, rule_has_no_float}
 use Rattle.rule_form.specs.Rules.{rule_formed, has_one_way}
 
 -- a rule that is formed is typed
@@ -19,6 +19,11 @@ FormedIsTyped = (interfaces : List Interface) (registers : List Register) (draft
 abbrev pub FormedHasOneWay : Type 0
 FormedHasOneWay = (interfaces : List Interface) (registers : List Register) (draft : RuleDraft) (rule : Rule)
     → rule_formed interfaces registers draft ≡ Ok rule → rules.has_one_way rule.branches ≡ has_one_way draft.branches
+
+-- neither its method reaches `float`, nor an error that it tells
+abbrev pub FormedHasNoFloat : Type 0
+FormedHasNoFloat = (interfaces : List Interface) (registers : List Register) (draft : RuleDraft) (rule : Rule)
+    → rule_formed interfaces registers draft ≡ Ok rule → rule_has_no_float interfaces registers rule ≡ true
 
 -- the test for `float` tells whether it is reached in finitely many steps
 abbrev pub FloatsAreTold : Type 0

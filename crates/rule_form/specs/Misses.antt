@@ -1,5 +1,5 @@
 -- Which parts of a rule name a register that is not there.
-use Rattle.std.specs.Prelude.{Bool, true, false, ◌||◌, List, [], ◌∷◌, is_none}
+use Rattle.std.specs.Prelude.{Bool, false, ◌||◌, List, [], ◌∷◌, is_none}
 use Rattle.std.specs.List.{list_any}
 use Rattle.idl_tree.specs.Names.{Bytes}
 use Rattle.sheet_rules.specs.declared.forms.Register.{Register}

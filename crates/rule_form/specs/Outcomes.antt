@@ -1,6 +1,5 @@
 -- Outcomes by names, formed by the method's reply.
 use Rattle.std.specs.Prelude.{Bool, true, false, Option, Some, None, option_map, option_and_then}
-use Rattle.call_form.specs.declared.Raw.{Raw}
 use Rattle.sheet_rules.specs.Types.{Typ, body_typ, array_part}
 use Rattle.sheet_rules.specs.Settings.{Setting}
 use Rattle.sheet_rules.specs.Outcomes.{with_item, same_raw}

@@ -1,7 +1,7 @@
 -- Which rule a draft is, and why it is none: the first refusal in order. First its method must be one of the
 -- sheet's, and then reach no `float`. Then each branch comes in order, and in it the condition, the guards,
 -- the steps and the outcome.
-use Rattle.std.specs.Prelude.{ℕ, suc, Bool, true, false, is_some, not, ◌&&◌, List, [], ◌∷◌, Option, Some, None, option_map, option_and_then, position, slice_get, Result, Ok, Err, if◌then◌else◌}
+use Rattle.std.specs.Prelude.{ℕ, suc, Bool, false, is_some, not, ◌&&◌, List, [], ◌∷◌, Option, Some, None, option_map, option_and_then, position, slice_get, Result, Ok, Err, if◌then◌else◌}
 use Rattle.std.specs.Str.{bytes_eq}
 use Rattle.idl_tree.specs.Names.{Bytes}
 use Rattle.idl_tree.specs.Faults.{method_named}

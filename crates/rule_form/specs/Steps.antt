@@ -1,13 +1,11 @@
 -- Steps by names, formed by the types of their registers.
-use Rattle.std.specs.Prelude.{ℕ, List, Option, Some, None, option_map, option_and_then}
+use Rattle.std.specs.Prelude.{ℕ, List, Option, option_map, option_and_then}
 use Rattle.idl_tree.specs.Names.{Bytes}
 use Rattle.sheet_rules.specs.Types.{Typ, string_typ, array_part, map_part}
 use Rattle.sheet_rules.specs.Settings.{Setting, register_typ}
 use Rattle.sheet_rules.specs.declared.forms.Register.{Register}
-use Rattle.sheet_rules.specs.declared.forms.Expr.{Expr}
 use Rattle.sheet_rules.specs.declared.forms.Action.{Action}
 use Rattle.sheet_rules.specs.declared.forms.Action.TheVariants as action
-use Rattle.expression_draft.specs.declared.drafts.ExprDraft.{ExprDraft}
 use Rattle.sheet_draft.specs.declared.drafts.ActionDraft.{ActionDraft}
 use Rattle.sheet_draft.specs.declared.drafts.ActionDraft.TheVariants as draft
 use Rattle.expression_form.specs.References.{register_place}

@@ -15,7 +15,9 @@ mod steps;
 pub use conditions::{cond_made, guard_made};
 pub use faults::RuleFault;
 pub use floats::reaches_float;
-pub use laws::{floats_are_told, formed_rules_are_typed, formed_rules_have_one_way};
+pub use laws::{
+    floats_are_told, formed_rules_are_typed, formed_rules_have_no_float, formed_rules_have_one_way,
+};
 pub use misses::{cond_misses, ending_misses, expr_misses, guard_misses, step_misses};
 pub use outcomes::ending_made;
 pub use rules::{interface_place, rule_formed};
