@@ -1,6 +1,10 @@
+pub mod Branches
+pub mod DraftWays
+pub mod KeptRegisters
 pub mod Names
 pub mod OneAnswer
 pub mod OneSheet
 pub mod Passing
+pub mod PlainRules
 pub mod RulePlaces
 pub mod RulesTyped

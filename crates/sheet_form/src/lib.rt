@@ -10,7 +10,7 @@ mod rules;
 mod sheets;
 
 pub use faults::SheetFault;
-pub use laws::one_answer;
+pub use laws::{one_answer, version_one_has_one_branch};
 pub use sheet_draft::{Info, Place, Spot};
 pub use sheets::{Sheet, read};
 

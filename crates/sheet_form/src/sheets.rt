@@ -1,8 +1,11 @@
 // Whole sheets.
-ghost use Rattle.std.specs.Prelude.{◌≡◌, List, Result};
+ghost use Rattle.std.specs.Prelude.{◌≡◌, true, length, List, Result};
+ghost use Rattle.std.specs.List.{list_all, AllByRecursion};
+ghost use Rattle.rule_form.specs.Floats.{rule_has_no_float};
 ghost use Rattle.rule_form.specs.Rules.{interface_place};
 ghost use Rattle.sheet_form.specs.Answers.{Reads, Same, done};
-ghost use Rattle.sheet_form.specs.RulePlaces.{rule_place};
+ghost use Rattle.sheet_form.specs.Kept.{AreRegisters, AreRules, IsFloatless, begins_typed, draft_goes_one_way, goes_one_way, initials_of, is_shallow};
+ghost use Rattle.sheet_form.specs.RulePlaces.{is_within, rule_place};
 ghost use Rattle.sheet_form.specs.Rules.{AreTyped};
 ghost use Rattle.sheet_form.specs.Sheets.{draft_fault, sheet_behind, sheet_of, tables_of};
 ghost use Rattle.sheet_form.specs.declared.faults.SheetFault.{SheetFault};
@@ -33,7 +36,8 @@ pub struct Contents {
     pub rules: List<Rule>,
 }
 
-/// A sheet whose rules are typed by its interfaces and registers. Contracts see what it says.
+/// A sheet whose rules are typed by its interfaces and registers, and whose registers begin with values of
+/// their types. Contracts see what it says.
 #[derive(Drop)]
 pub struct Sheet {
     contents: Contents,
@@ -42,8 +46,8 @@ pub struct Sheet {
 }
 
 impl Model for Sheet {
+    ghost use Rattle.sheet_form.specs.Kept.{AreRegisters, AreRules};
     ghost use Rattle.sheet_form.specs.RulePlaces.{Tells};
-    ghost use Rattle.sheet_form.specs.Rules.{AreTyped};
     ghost use Rattle.sheet_form.specs.declared.sheets.Contents.{Contents};
     ghost use Rattle.sheet_form.specs.contracts.sheets.Contents as stored;
 
@@ -54,7 +58,8 @@ impl Model for Sheet {
     ghost view = { λ sheet. sheet.contents };
 
     ghost invariant = { λ sheet.
-        AreTyped sheet.contents.interfaces sheet.contents.registers sheet.contents.rules
+        AreRegisters sheet.contents.interfaces sheet.contents.registers
+        × AreRules sheet.contents.interfaces sheet.contents.registers sheet.contents.rules
         × Tells sheet.places.by_interface.items sheet.contents.rules };
 }
 
@@ -73,17 +78,26 @@ impl Sheet {
         self.contents.interfaces.as_slice()
     }
 
-    /// The registers in order.
+    /// The registers in order. Each begins with a value of its type, which is of an interface of the sheet
+    /// and does not reach `float`; the value has at most 120 levels.
     pub fn registers(&self) -> &[Register]
-        ensures { result.now ≡ self.now.registers }
+        ensures registers { result.now ≡ self.now.registers }
+        ensures typed { list_all (begins_typed self.now.interfaces) self.now.registers ≡ true }
+        ensures within { list_all is_shallow (initials_of self.now.registers) ≡ true }
+        ensures floatless { AllByRecursion (IsFloatless self.now.interfaces) self.now.registers }
     {
         self.contents.registers.as_slice()
     }
 
-    /// The rules in the byte order of their names. Each is typed.
+    /// The rules in the byte order of their names. Each is of an interface of the sheet and typed without
+    /// `float`, and its last branch alone has no condition.
     pub fn rules(&self) -> &[Rule]
         ensures rules { result.now ≡ self.now.rules }
         ensures typed { AreTyped self.now.interfaces self.now.registers self.now.rules }
+        ensures placed { list_all (is_within (length self.now.interfaces)) self.now.rules ≡ true }
+        ensures one_way { list_all goes_one_way self.now.rules ≡ true }
+        ensures floatless { list_all (rule_has_no_float self.now.interfaces self.now.registers)
+            self.now.rules ≡ true }
     {
         self.contents.rules.as_slice()
     }
@@ -134,8 +148,9 @@ fn of_draft(fault: DraftFault) -> SheetFault
     }
 }
 
-// The sheet that a draft is.
+// The sheet that a draft is, of whose rules the last branch alone has no condition.
 fn read_draft(alloc: Global, draft: SheetDraft) -> Result<Sheet, SheetFault>
+    requires { list_all draft_goes_one_way draft.rules ≡ true }
     ensures { Reads result (sheet_behind draft) }
 {
     let SheetDraft {
@@ -169,7 +184,8 @@ fn assembled(
     registers: List<Register>,
     rules: List<Rule>,
 ) -> Result<Sheet, SheetFault>
-    requires { AreTyped interfaces registers rules }
+    requires registers { AreRegisters interfaces registers }
+    requires rules { AreRules interfaces registers rules }
     ensures { Reads result (done (record { info = info; interfaces = interfaces; registers = registers; rules = rules })) }
 {
     match RulePlaces::of(alloc, interfaces.as_slice().len(), rules.as_slice()) {

@@ -1,16 +1,20 @@
-use Rattle.std.proofs.Common.{List, [], Err, refl}
+use Rattle.std.proofs.Common.{List, Err}
 use Rattle.sheet_rules.specs.declared.forms.Rule.{Rule}
 use Rattle.sheet_form.specs.Answers.{done}
 use Rattle.sheet_form.specs.Rules.{rules_of}
 use Rattle.sheet_form.specs.Sheets.{Tables, contents, tables_of, with_rules}
 use Rattle.sheet_form.proofs.Passing.{passes, follows}
-use Rattle.sheet_form.proofs.RulesTyped.{typed_rules}
+use Rattle.sheet_form.proofs.KeptRegisters.{kept_tables}
+use Rattle.sheet_form.proofs.RulesTyped.{kept_rules}
 use Rattle.sheet_form.proofs.sheets.read_draft.Goals as goal
 
-pub assembled-requires : goal.assembled-requires
-assembled-requires c =
+pub assembled-requires-clause-registers : goal.assembled-requires-clause-registers
+assembled-requires-clause-registers c = kept_tables c.args.draft.interfaces c.args.draft.registers (c.in-Ok.interfaces, c.in-Ok.registers) c.in-Ok.ensures
+
+pub assembled-requires-clause-rules : goal.assembled-requires-clause-rules
+assembled-requires-clause-rules c =
     let read = rw c.as_slice.ensures at c.in-Ok-read_rules.ensures in
-    typed_rules c.in-Ok.interfaces c.in-Ok.registers [] c.args.draft.rules c.in-Ok-read_rules.rules refl read
+    kept_rules c.in-Ok.interfaces c.in-Ok.registers c.args.draft.rules c.in-Ok-read_rules.rules c.requires read
 
 pub returns-in-Ok-read_rules : goal.returns-in-Ok-read_rules
 returns-in-Ok-read_rules c =
