@@ -149,7 +149,7 @@ fn register_of(alloc: Global, levels: u64) -> Result<String, Memory> {
 
 // Whether the sheet with these parts is told so: by its numbers of interfaces, registers and rules, or by
 // its fault.
-fn has(
+pub fn has(
     alloc: Global,
     version: u8,
     interfaces: &str,
