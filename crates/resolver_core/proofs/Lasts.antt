@@ -60,5 +60,5 @@ fits_one call reply last writable = record {
   errors = tt;
   several = λ _. refl;
   upgrade = λ some. absurd (true≢false (sym some));
-  writable = (writable, tt);
+  writable = (record { is_object = writable.is_object; is_sound = writable.is_sound }, tt);
 }

@@ -4,7 +4,8 @@ use Rattle.std.specs.List.{AllByRecursion}
 use Rattle.call_form.specs.declared.Call.{Call}
 use Rattle.call_form.specs.declared.Reply.{Reply}
 use Rattle.call_form.specs.declared.Outcome.{Outcome}
-use Rattle.call_form.specs.ReplyText.{IsWritable}
+use Rattle.link_port.specs.SoundTrees.{IsSound}
+use Rattle.call_form.specs.CallOf.{IsObject}
 
 -- the outcome without its first reply
 abbrev pub without_first : Outcome → List Reply → Outcome
@@ -27,6 +28,12 @@ OnlyLastFails [] = ⊤
 OnlyLastFails (reply ∷ []) = ⊤
 OnlyLastFails (reply ∷ replies) = (reply.error ≡ None) × OnlyLastFails replies
 
+-- the parameters of the reply are an object with its keys in byte order and each once, and hold no number but whole
+-- ones. That its texts are UTF-8 is so of each reply that there is
+pub record HasSoundParameters (reply : Reply) : Type 0 where
+  pub is_object : IsObject reply.parameters
+  pub is_sound : IsSound reply.parameters
+
 -- an outcome fits its call (varlink.org, "Method Call"): one reply at least, several only where `more` is set, all but
 -- the last with `continues` and without an error, and an upgrade only where `upgrade` is set and neither `oneway` nor
 -- `more`. Each reply can be written
@@ -35,7 +42,7 @@ pub record Fits (call : Call) (outcome : Outcome) : Type 0 where
   pub errors : OnlyLastFails outcome.replies
   pub several : call.more ≡ false → length outcome.replies ≡ 1
   pub upgrade : IsSome outcome.raw → (call.upgrade ≡ true) × (call.oneway ≡ false) × (call.more ≡ false)
-  pub writable : AllByRecursion IsWritable outcome.replies
+  pub writable : AllByRecursion HasSoundParameters outcome.replies
 
 -- each of these outcomes fits the call at its place
 abbrev pub AllFit : List Call → List Outcome → Type 0

@@ -6,9 +6,9 @@ ghost use Rattle.session_core.specs.Seen.{Seen, Moves, fresh, run_from};
 ghost use Rattle.session_core.specs.Steps.{room_in, holding, IsIdle, IsPaused, Turns, RunsOn, ended_in};
 ghost use Rattle.session_core.specs.Steps.{IsWaiting, IsRaw, texts_in, asked_in, left_after, replied_phase, echoed_in};
 ghost use Rattle.link_port.specs.Flow.{AppendsFront};
+ghost use Rattle.session_core.specs.Outcomes.{HasSoundParameters};
 ghost use Rattle.session_core.specs.Sent.{sent, Sends};
 ghost use Rattle.session_core.specs.Writes.{BreaksOff};
-ghost use Rattle.call_form.specs.ReplyText.{IsWritable};
 ghost use Rattle.link_port.specs.Faults.{Rises};
 ghost use Rattle.link_port.specs.Flow.{IsAsBefore};
 ghost use Rattle.std.specs.Io.KnownBytes.{Appends};
@@ -152,7 +152,7 @@ impl Session {
         sink: &mut K,
     ) -> Result<(), Stop>
         requires waits { IsWaiting self.old.phase }
-        requires writable { AllByRecursion IsWritable (P.left replies.old).replies }
+        requires writable { AllByRecursion HasSoundParameters (P.left replies.old).replies }
         requires unfinished { K.finished sink.old ≡ false }
 
         ensures state { OnOk result
@@ -189,7 +189,7 @@ impl Session {
         sink: &mut K,
     ) -> Result<(), Stop>
         requires waits { IsWaiting self.old.phase }
-        requires writable { AllByRecursion IsWritable (P.left replies.old).replies }
+        requires writable { AllByRecursion HasSoundParameters (P.left replies.old).replies }
         requires unfinished { K.finished sink.old ≡ false }
 
         ensures state { OnOk result

@@ -2,7 +2,7 @@
 ghost use Rattle.std.specs.Prelude.{◌≡◌, false, IfOk};
 ghost use Rattle.std.specs.List.{AllByRecursion};
 ghost use Rattle.call_form.specs.CallOf.{IsObject};
-ghost use Rattle.call_form.specs.ReplyText.{IsWritable};
+ghost use Rattle.session_core.specs.Outcomes.{HasSoundParameters};
 ghost use Rattle.session_core.specs.Steps.{IsIdle};
 
 use call_form::{Call, Outcome, Raw, Reply};
@@ -199,7 +199,7 @@ fn raw_bytes_follow_an_upgrade(rt: HostRuntime) -> Result<(), Fail> {
 /// The replies to a call.
 fn replies_to(alloc: Global, call: Call) -> Result<Given, Memory>
     requires { IsObject call.parameters }
-    ensures { IfOk result (λ given. AllByRecursion IsWritable given.replies) }
+    ensures { IfOk result (λ given. AllByRecursion HasSoundParameters given.replies) }
 {
     Upgrading.answer(alloc, &call)
 }

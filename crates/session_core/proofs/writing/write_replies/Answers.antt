@@ -2,7 +2,7 @@ use Rattle.std.proofs.Common.{ℕ, refl, List, [], ◌∷◌, ◌++◌, ◌∙�
 use Rattle.std.specs.List.{AllByRecursion}
 use Rattle.call_form.specs.declared.Outcome.{Outcome}
 use Rattle.call_form.specs.declared.Reply.{Reply}
-use Rattle.call_form.specs.ReplyText.{IsWritable}
+use Rattle.session_core.specs.Outcomes.{HasSoundParameters}
 use Rattle.session_core.specs.Sent.{sent, Sends}
 use Rattle.session_core.specs.Writes.{BreaksOff}
 use Rattle.session_core.proofs.SentLemmas.{Sends-nil}
@@ -26,7 +26,7 @@ replies-preserved g c =
       read_faults = c.write_reply.ensures.other.1 ∙ earlier.read_faults;
       room = c.write_reply.ensures.room ∙ earlier.room;
       unfinished = c.write_reply.ensures.unfinished;
-      writable = (subst (λ (replies : List Reply). AllByRecursion IsWritable replies) first earlier.writable).1;
+      writable = (subst (λ (replies : List Reply). AllByRecursion HasSoundParameters replies) first earlier.writable).1;
     }
 
 pub returns-in-Err-write_reply-clause-part : goal.returns-in-Err-write_reply-clause-part

@@ -1,7 +1,8 @@
 use Rattle.std.proofs.Common.{◌≡◌, false, List, ◌++◌, length}
 use Rattle.std.specs.List.{AllByRecursion, flat_map}
 use Rattle.call_form.specs.declared.Reply.{Reply}
-use Rattle.call_form.specs.ReplyText.{IsWritable, reply_bytes}
+use Rattle.call_form.specs.ReplyText.{reply_bytes}
+use Rattle.session_core.specs.Outcomes.{HasSoundParameters}
 use Rattle.session_core.specs.Sent.{sent, Sends}
 use Rattle.session_core.proofs.writing.write_replies.Given as goal
 
@@ -16,7 +17,7 @@ invariant-replies g l = record {
   faults : g.K.Ends.write_faults l.sink ≡ g.K.Ends.write_faults l.initial.sink;
   left : g.K.Ends.left l.sink ≡ g.K.Ends.left l.initial.sink;
   read_faults : g.K.Ends.read_faults l.sink ≡ g.K.Ends.read_faults l.initial.sink;
-  writable : AllByRecursion IsWritable (g.P.Replies.left l.replies).replies;
+  writable : AllByRecursion HasSoundParameters (g.P.Replies.left l.replies).replies;
 }
 
 abbrev pub decreases-replies : goal.decreases-replies
