@@ -58,11 +58,19 @@ expect_unwritten() {
 
 # ---- words
 
-for words in "" "Session" "session session x" "--help" "help" "check" "format" "sheet" "sheet --a" "sheet a b" "check a b" "check --a" "lint good.varlink"; do
+for words in "" "Session" "session session x" "--help" "help help" "check" "format" "sheet" "sheet --a" "sheet a b" "check a b" "check --a" "lint good.varlink" \
+    "compat" "compat good.varlink" "compat a b c" "compat --a b" "compat a --b"; do
     # shellcheck disable=SC2086
     expect "the words '$words'" 1 - 'bad words' $words </dev/null
 done
 expect 'a word that is no text' 1 - 'bad words' check $'\xff' </dev/null
+
+# ---- help
+
+printf '%s\n' check format sheet session help compat >"$work/help"
+expect 'help' 0 "$work/help" - help </dev/null
+: >"$work/in"
+expect_unwritten help 'write fault' help
 
 # ---- session
 
@@ -129,6 +137,31 @@ expect 'a file of 1,048,577 bytes' 2 - "$work/longer is too long" format "$work/
 : >"$work/in"
 expect_unwritten check 'write fault' check good.varlink
 expect_unwritten format 'write fault' format good.varlink
+
+# ---- compat
+
+count=$top/examples/org.example.count.varlink
+next=$top/examples/org.example.count.next.varlink
+echo compatible >"$work/compatible"
+expect 'a definition and itself' 0 "$work/compatible" - compat "$count" "$count" </dev/null
+expect 'a definition that can take the place' 0 "$work/compatible" - compat "$count" "$next" </dev/null
+expect 'the two exchanged' 10 - 'differs at Add output level' compat "$next" "$count" </dev/null
+expect 'a definition that breaks callers' 10 - 'differs at Note input entry day' \
+    compat "$count" "$top/examples/org.example.count.breaking.varlink" </dev/null
+while IFS='|' read -r line change; do
+    sed "$change" "$count" >"$work/new"
+    expect "a definition with $change" 10 - "$line" compat "$count" "$work/new" </dev/null
+done <differences
+expect 'an old file that is missing' 5 - 'cannot read missing' compat missing good.varlink </dev/null
+expect 'a new file that is missing' 5 - 'cannot read missing' compat good.varlink missing </dev/null
+expect 'two files that are missing' 5 - 'cannot read missing' compat missing absent </dev/null
+expect 'a missing file behind a bad one' 5 - 'cannot read missing' compat bad-byte.varlink missing </dev/null
+expect 'a bad file behind a good one' 2 - 'bad byte at 14' compat good.varlink bad-byte.varlink </dev/null
+expect 'two bad files' 2 - 'type A is not defined' compat unknown.varlink bad-byte.varlink </dev/null
+expect 'a missing file behind one that is too long' 2 - "$work/longer is too long" compat "$work/longer" missing </dev/null
+expect 'a file that is too long behind a bad one' 2 - "$work/longer is too long" compat bad-byte.varlink "$work/longer" </dev/null
+expect 'two files of 1,048,576 bytes' 0 "$work/compatible" - compat "$work/longest" "$work/longest" </dev/null
+expect_unwritten compat 'write fault' compat "$count" "$next"
 
 # ---- sheet
 

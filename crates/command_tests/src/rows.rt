@@ -21,6 +21,8 @@ pub struct Row<'a> {
     pub failing_puts: &'a [u64],
     /// The text of the file `d`.
     pub file: &'a str,
+    /// The text of the file `n`.
+    pub other: &'a str,
     pub output: &'a [u8],
     pub status: u8,
     /// What stands behind `varlink: ` on the line of the fault.
@@ -35,6 +37,7 @@ pub const NOTHING: Row<'static> = Row {
     failing_takes: &[],
     failing_puts: &[],
     file: "",
+    other: "",
     output: b"",
     status: 0,
     line: "",
@@ -90,7 +93,7 @@ fn world(alloc: Global, row: &Row<'_>) -> Result<Fake, Memory>
     ensures output { IfOk result (λ world. world.output.finished ≡ false) }
     ensures faults { IfOk result (λ world. world.faults.finished ≡ false) }
 {
-    let (input, files) = beside(source(alloc, row)?, files(alloc, row.file))?;
+    let (input, files) = beside(source(alloc, row)?, files(alloc, row))?;
     let output = match sink(alloc, row.failing_puts) {
         Ok(output) => output,
         Err(memory) => {
@@ -124,11 +127,22 @@ fn sink(alloc: Global, failing: &[u64]) -> Result<MemSink, Memory>
     MemSink::new(alloc, 8192, List::new(alloc), list(alloc, failing)?)
 }
 
-fn files(alloc: Global, text: &str) -> Result<MemFiles, Memory> {
-    let (name, held) = beside(Text::of(alloc, "d")?, list(alloc, text.as_bytes()))?;
+fn files(alloc: Global, row: &Row<'_>) -> Result<MemFiles, Memory> {
     let mut files = List::new(alloc);
-    files.push((name, held))?;
+    files.push(held(alloc, "d", row.file)?)?;
+    match held(alloc, "n", row.other) {
+        Ok(other) => files.push(other)?,
+        Err(memory) => {
+            drop(files);
+            return Err(memory);
+        }
+    }
     MemFiles::new(alloc, files, List::new(alloc))
+}
+
+/// A file of this name and text.
+fn held(alloc: Global, name: &str, text: &str) -> Result<(Text, List<u8>), Memory> {
+    beside(Text::of(alloc, name)?, list(alloc, text.as_bytes()))
 }
 
 fn texts(alloc: Global, words: &[&str]) -> Result<Vec<Text>, Memory> {

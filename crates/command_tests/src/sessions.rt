@@ -26,6 +26,7 @@ const SESSION: Row<'static> = Row {
     failing_takes: &[],
     failing_puts: &[],
     file: "",
+    other: "",
     output: b"",
     status: 0,
     line: "",

@@ -2,12 +2,16 @@
 use crate::rows::{NOTHING, Row, are_right};
 use std::alloc::Global;
 
-const WORDS: [&[&str]; 6] = [
+const WORDS: [&[&str]; 10] = [
     &[],
     &["check"],
     &["Session"],
     &["session", "session"],
     &["check", "--d"],
+    &["compat", "d"],
+    &["compat", "--d", "n"],
+    &["compat", "d", "--n"],
+    &["check", "d", "n"],
     &["--help"],
 ];
 
@@ -25,6 +29,18 @@ fn are_bad(alloc: Global, each: &[&[&str]]) -> bool {
         }
     }
     true
+}
+
+/// The words of the commands are printed.
+const HELP: Row<'static> = Row {
+    words: &["help"],
+    output: b"check\nformat\nsheet\nsession\nhelp\ncompat\n",
+    ..NOTHING
+};
+
+#[test]
+fn the_words_of_the_commands_are_printed(rt: HostRuntime) {
+    assert!(rt; are_right(rt.alloc(), &[HELP]));
 }
 
 #[test]

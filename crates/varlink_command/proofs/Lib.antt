@@ -4,3 +4,4 @@ pub mod SessionLemmas
 pub mod Telling
 pub mod Counting
 pub mod Reasons
+pub mod Refusing

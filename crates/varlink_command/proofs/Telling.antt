@@ -5,7 +5,8 @@ use Rattle.idl_tree.specs.declared.trees.Interface.{Interface}
 use Rattle.varlink_command.specs.declared.faults.Fault.{Fault}
 use Rattle.varlink_command.specs.declared.showing.Showing.{Showing}
 use Rattle.varlink_command.specs.declared.words.Command.{Command}
-use Rattle.varlink_command.specs.declared.words.Command.TheVariants.{Session, Check, Format, Sheet}
+use Rattle.varlink_command.specs.declared.words.Command.TheVariants.{Session, Check, Format, Sheet, Help, Compat}
+use Rattle.varlink_command.specs.Comparing.{ComparesFiles, ComparesRead}
 use Rattle.varlink_command.specs.Definitions.{ShowsDefinition, ShowsRead}
 use Rattle.varlink_command.specs.Ends.{Ends, Object}
 use Rattle.varlink_command.specs.Sheets.{CountsRead, CountsSheet}
@@ -46,11 +47,28 @@ counts-told path before after faults outcome counted = record {
   shows = counts-read counted.read before after faults outcome counted.shows;
 }
 
-pub Ran-told : (command : Option Command) (path : List ℕ) (before after : Ends) (faults : Object) (outcome : Result ⊤ Fault) →
-    Ran command path before after outcome → Ran command path before (told after faults) outcome
-Ran-told None path before after faults outcome ran = ran
-Ran-told (Some Session) path before after faults outcome ran =
+compares-read : (read : Result (Interface × Interface) Fault) (before after : Ends) (faults : Object) (outcome : Result ⊤ Fault) →
+    ComparesRead read before after outcome → ComparesRead read before (told after faults) outcome
+compares-read (Ok trees) before after faults outcome shows = shows
+compares-read (Err why) before after faults outcome shows = shows
+
+compares-told : (old new : List ℕ) (before after : Ends) (faults : Object) (outcome : Result ⊤ Fault) →
+    ComparesFiles old new before after outcome → ComparesFiles old new before (told after faults) outcome
+compares-told old new before after faults outcome compared = record {
+  read = compared.read;
+  reads = compared.reads;
+  counted = compared.counted;
+  asked = compared.asked;
+  shows = compares-read compared.read before after faults outcome compared.shows;
+}
+
+pub Ran-told : (command : Option Command) (path second : List ℕ) (before after : Ends) (faults : Object) (outcome : Result ⊤ Fault) →
+    Ran command path second before after outcome → Ran command path second before (told after faults) outcome
+Ran-told None path second before after faults outcome ran = ran
+Ran-told (Some Session) path second before after faults outcome ran =
     record { why = ran.why; served = ran.served; reads = ran.reads; writes = ran.writes; comes = ran.comes }
-Ran-told (Some Check) path before after faults outcome ran = shows-told _ path before after faults outcome ran
-Ran-told (Some Format) path before after faults outcome ran = shows-told _ path before after faults outcome ran
-Ran-told (Some Sheet) path before after faults outcome ran = counts-told path before after faults outcome ran
+Ran-told (Some Check) path second before after faults outcome ran = shows-told _ path before after faults outcome ran
+Ran-told (Some Format) path second before after faults outcome ran = shows-told _ path before after faults outcome ran
+Ran-told (Some Sheet) path second before after faults outcome ran = counts-told path before after faults outcome ran
+Ran-told (Some Help) path second before after faults outcome ran = ran
+Ran-told (Some Compat) path second before after faults outcome ran = compares-told path second before after faults outcome ran

@@ -1,5 +1,5 @@
 -- What the commands on definitions do.
-use Rattle.std.specs.Prelude.{◌≡◌, ℕ, ◌<◌, ◌≤◌, ◌⊎◌, List, [], ◌∷◌, ◌++◌, length, codes, Result, Ok, Err, Option, Some, IfSome, ⊤}
+use Rattle.std.specs.Prelude.{◌≡◌, ℕ, ◌<◌, ◌≤◌, ◌⊎◌, List, [], ◌∷◌, ◌++◌, length, codes, Bool, true, false, Result, Ok, Err, Option, Some, IfSome, ⊤}
 use Rattle.std.specs.Io.KnownBytes.{Appends}
 use Rattle.link_port.specs.Faults.{Rises}
 use Rattle.link_port.specs.Flow.{AppendsFront}
@@ -11,6 +11,8 @@ use Rattle.idl_grammar.specs.declared.faults.IdlFault.TheVariants as idl
 use Rattle.idl_grammar.specs.Refuses.{Refuses}
 use Rattle.varlink_command.specs.declared.faults.Fault.{Fault}
 use Rattle.varlink_command.specs.declared.faults.Fault.TheVariants as fault
+use Rattle.varlink_command.specs.declared.faults.Which.{Which}
+use Rattle.varlink_command.specs.declared.faults.Which.TheVariants.{First}
 use Rattle.varlink_command.specs.declared.showing.Showing.{Showing}
 use Rattle.varlink_command.specs.declared.showing.Showing.TheVariants.{Name, Text}
 use Rattle.varlink_command.specs.Ends.{Ends, PutsNothing}
@@ -34,45 +36,56 @@ pub record Holds (limit : ℕ) (held : Option (List ℕ)) (text : List ℕ) : Ty
 abbrev pub IsPastLimit : ℕ → Option (List ℕ) → Type 0
 IsPastLimit limit held = IfSome held (λ content. limit < length content)
 
--- what was read of a file
-abbrev pub ReadsFile : ℕ → Option (List ℕ) → Result (List ℕ) Fault → Type 0
-ReadsFile limit held (Ok text) = Holds limit held text
-ReadsFile limit held (Err fault.PastLimit) = IsPastLimit limit held
-ReadsFile limit held (Err fault.Unreadable) = ⊤
-ReadsFile limit held (Err fault.Memory) = ⊤
-ReadsFile limit held (Err why) = ⊥
+-- what was read of a file, which is this one of those that the words name
+abbrev pub ReadsFile : Which → ℕ → Option (List ℕ) → Result (List ℕ) Fault → Type 0
+ReadsFile which limit held (Ok text) = Holds limit held text
+ReadsFile which limit held (Err (fault.PastLimit file)) = (file ≡ which) × IsPastLimit limit held
+ReadsFile which limit held (Err (fault.Unreadable file)) = file ≡ which
+ReadsFile which limit held (Err fault.Memory) = ⊤
+ReadsFile which limit held (Err why) = ⊥
 
--- the text is accepted as this tree
+-- what the file holds is accepted as this tree
 pub record IsDefinition (held : Option (List ℕ)) (tree : Interface) : Type 0 where
   pub text : List ℕ
   pub holds : Holds definition_limit held text
   pub accepts : Accepts text tree
 
--- want of memory is no cause of a refusal
-abbrev pub IsCause : IdlFault → Type 0
-IsCause idl.Memory = ⊥
-IsCause fault = ⊤
+-- the refusal is want of memory
+abbrev pub is_want : IdlFault → Bool
+is_want idl.Memory = true
+is_want why = false
 
 -- the text is accepted as no tree, and this is why
-pub record IsNone (held : Option (List ℕ)) (fault : IdlFault) : Type 0 where
+pub record IsRefused (text : List ℕ) (why : IdlFault) : Type 0 where
+  pub caused : is_want why ≡ false
+  pub refuses : Refuses why text
+  pub none : (tree : Interface) → Accepts text tree → ⊥
+
+-- what a text is as a definition
+abbrev pub ReadsText : List ℕ → Result Interface Fault → Type 0
+ReadsText text (Ok tree) = Accepts text tree
+ReadsText text (Err (fault.NoDefinition why)) = IsRefused text why
+ReadsText text (Err fault.Memory) = ⊤
+ReadsText text (Err why) = ⊥
+
+-- what the file holds is accepted as no tree, and this is why
+pub record IsNone (held : Option (List ℕ)) (why : IdlFault) : Type 0 where
   pub text : List ℕ
   pub holds : Holds definition_limit held text
-  pub caused : IsCause fault
-  pub refuses : Refuses fault text
-  pub none : (tree : Interface) → Accepts text tree → ⊥
+  pub refused : IsRefused text why
 
 -- what was read of a file as a definition
 abbrev pub ReadsDefinition : Option (List ℕ) → Result Interface Fault → Type 0
 ReadsDefinition held (Ok tree) = IsDefinition held tree
 ReadsDefinition held (Err (fault.NoDefinition why)) = IsNone held why
-ReadsDefinition held (Err fault.PastLimit) = IsPastLimit definition_limit held
-ReadsDefinition held (Err fault.Unreadable) = ⊤
+ReadsDefinition held (Err (fault.PastLimit file)) = (file ≡ First) × IsPastLimit definition_limit held
+ReadsDefinition held (Err (fault.Unreadable file)) = file ≡ First
 ReadsDefinition held (Err fault.Memory) = ⊤
 ReadsDefinition held (Err why) = ⊥
 
 -- the count of faults of the files rose exactly where they failed
 abbrev pub FilesFault : {A : Type 0} → ℕ → ℕ → Result A Fault → Type 0
-FilesFault before now (Err fault.Unreadable) = Rises before now
+FilesFault before now (Err (fault.Unreadable file)) = Rises before now
 FilesFault before now result = now ≡ before
 
 -- at most this one path was asked for, and once

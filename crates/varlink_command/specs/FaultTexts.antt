@@ -53,10 +53,11 @@ sheet_text sheet.Memory = out_of_memory
 -- the text of a fault of a command on this path
 abbrev pub fault_text : List ℕ → Fault → List ℕ
 fault_text path fault.BadWords = codes "bad words"
-fault_text path fault.Unreadable = codes "cannot read " ++ path
-fault_text path fault.PastLimit = path ++ codes " is too long"
+fault_text path (fault.Unreadable file) = codes "cannot read " ++ path
+fault_text path (fault.PastLimit file) = path ++ codes " is too long"
 fault_text path (fault.NoDefinition why) = refusal_text why
 fault_text path (fault.NoSheet why) = sheet_text why
+fault_text path (fault.Incompatible line) = line
 fault_text path (fault.Cut bytes) = codes "cut after " ++ decimal bytes ++ codes " bytes"
 fault_text path (fault.NotCall index) = codes "message " ++ decimal index ++ codes " is no call"
 fault_text path (fault.TooLong index) = codes "message " ++ decimal index ++ codes " is too long"

@@ -8,17 +8,18 @@ use Rattle.varlink_command.specs.declared.faults.Fault.TheVariants as fault
 
 abbrev pub status_of : Fault → ℕ
 status_of fault.BadWords = 1
-status_of fault.PastLimit = 2
+status_of (fault.PastLimit file) = 2
 status_of (fault.NoDefinition why) = 2
 status_of (fault.NoSheet why) = 2
 status_of (fault.Cut bytes) = 3
 status_of (fault.NotCall index) = 3
 status_of (fault.TooLong index) = 3
-status_of fault.Unreadable = 5
+status_of (fault.Unreadable file) = 5
 status_of fault.ReadFault = 5
 status_of fault.WriteFault = 6
 status_of fault.Memory = 7
 status_of fault.Long = 8
+status_of (fault.Incompatible line) = 10
 
 abbrev pub refusal_number : IdlFault → ℕ
 refusal_number (idl.Token (token.NotUtf8 at)) = at

@@ -1,7 +1,9 @@
+pub mod Comparing
 pub mod Definitions
 pub mod Ends
 pub mod Faults
 pub mod FaultTexts
+pub mod FixedTexts
 pub mod FixedService
 pub mod Lines
 pub mod Offline

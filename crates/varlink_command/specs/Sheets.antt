@@ -9,6 +9,7 @@ use Rattle.sheet_form.specs.declared.faults.SheetFault.TheVariants as sheet
 use Rattle.sheet_form.specs.declared.sheets.Contents.{Contents}
 use Rattle.varlink_command.specs.declared.faults.Fault.{Fault}
 use Rattle.varlink_command.specs.declared.faults.Fault.TheVariants as fault
+use Rattle.varlink_command.specs.declared.faults.Which.TheVariants.{First}
 use Rattle.varlink_command.specs.Definitions.{Holds, IsPastLimit, FilesFault, AsksOnce}
 use Rattle.varlink_command.specs.Ends.{Ends, PutsNothing}
 
@@ -45,8 +46,8 @@ pub record IsNoSheet (held : Option (List ℕ)) (why : SheetFault) : Type 0 wher
 abbrev pub ReadsSheet : Option (List ℕ) → Result Contents Fault → Type 0
 ReadsSheet held (Ok contents) = IsSheet held contents
 ReadsSheet held (Err (fault.NoSheet why)) = IsNoSheet held why
-ReadsSheet held (Err fault.PastLimit) = IsPastLimit sheet_limit held
-ReadsSheet held (Err fault.Unreadable) = ⊤
+ReadsSheet held (Err (fault.PastLimit file)) = (file ≡ First) × IsPastLimit sheet_limit held
+ReadsSheet held (Err (fault.Unreadable file)) = file ≡ First
 ReadsSheet held (Err fault.Memory) = ⊤
 ReadsSheet held (Err why) = ⊥
 

@@ -1,8 +1,8 @@
 -- What the words of a command line mean.
-use Rattle.std.specs.Prelude.{ℕ, ◌==◌, ◌&&◌, Bool, false, List, [], ◌∷◌, codes, if◌then◌else◌, Option, Some, None}
+use Rattle.std.specs.Prelude.{ℕ, ◌==◌, ◌&&◌, ◌||◌, Bool, false, List, [], ◌∷◌, codes, if◌then◌else◌, Option, Some, None}
 use Rattle.std.specs.Cmp.Lexicographic.{pointwise}
 use Rattle.varlink_command.specs.declared.words.Command.{Command}
-use Rattle.varlink_command.specs.declared.words.Command.TheVariants.{Session, Check, Format, Sheet}
+use Rattle.varlink_command.specs.declared.words.Command.TheVariants.{Session, Check, Format, Sheet, Help, Compat}
 
 abbrev pub is_word : List ℕ → List ℕ → Bool
 is_word word other = pointwise ◌==◌ word other
@@ -13,18 +13,34 @@ is_option [] = false
 is_option (b ∷ []) = false
 is_option (b ∷ c ∷ bytes) = (b == 45) && (c == 45)
 
+-- the command whose word stands alone
+abbrev pub sole_command : List ℕ → Option Command
+sole_command word = if is_word word (codes "session") then Some Session
+    else (if is_word word (codes "help") then Some Help else None)
+
 -- the command whose word takes a path
 abbrev pub path_command : List ℕ → Option Command
 path_command word = if is_word word (codes "check") then Some Check
     else (if is_word word (codes "format") then Some Format else (if is_word word (codes "sheet") then Some Sheet else None))
 
--- `session`, `check PATH`, `format PATH` and `sheet PATH`; no option is known, and no other words are a command
+-- the command whose word takes two paths
+abbrev pub pair_command : List ℕ → Option Command
+pair_command word = if is_word word (codes "compat") then Some Compat else None
+
+-- `session`, `help`, `check PATH`, `format PATH`, `sheet PATH` and `compat OLD NEW`; no option is known, and no other words
+-- are a command
 abbrev pub command : List (List ℕ) → Option Command
-command (word ∷ []) = if is_word word (codes "session") then Some Session else None
+command (word ∷ []) = sole_command word
 command (word ∷ path ∷ []) = if is_option path then None else path_command word
+command (word ∷ old ∷ new ∷ []) = if is_option old || is_option new then None else pair_command word
 command _ = None
 
 -- the path behind a command's word
 abbrev pub path_of : List (List ℕ) → List ℕ
-path_of (word ∷ path ∷ []) = path
+path_of (word ∷ path ∷ rest) = path
 path_of _ = []
+
+-- the path behind that one
+abbrev pub second_path_of : List (List ℕ) → List ℕ
+second_path_of (word ∷ path ∷ second ∷ rest) = second
+second_path_of _ = []

@@ -1,30 +1,39 @@
 // The top call of the commands that need no network.
 ghost use Rattle.std.specs.Prelude.{◌≡◌, ◌≢◌, [], false, Some, None, Err};
 ghost use Rattle.link_port.specs.Flow.{IsAsBefore};
+ghost use Rattle.varlink_command.specs.Comparing.{ComparesFiles};
 ghost use Rattle.varlink_command.specs.Definitions.{ShowsDefinition};
 ghost use Rattle.varlink_command.specs.Ends.{AreOpen, KeepsOthers};
-ghost use Rattle.varlink_command.specs.Offline.{Concludes, Ran, Runs};
+ghost use Rattle.varlink_command.specs.Offline.{Concludes, Ran, Runs, path_told as told_path};
 ghost use Rattle.varlink_command.specs.Sessions.{ServesSession, outcome_of as stop_outcome};
 ghost use Rattle.varlink_command.specs.Sheets.{CountsSheet};
-ghost use Rattle.varlink_command.specs.Words.{command, path_of as path_word};
+ghost use Rattle.varlink_command.specs.Words.{command, path_of as path_word, second_path_of as second_path_word};
 
+use crate::comparing::{read_both, show_verdict};
 use crate::fault_lines::write_fault_line;
-use crate::faults::Fault;
+use crate::faults::{Fault, Which};
+use crate::pieces::show_fixed;
 use crate::reading::{read_definition, read_sheet};
 use crate::services::FixedService;
 use crate::sheets::show_counts;
 use crate::showing::{Showing, show};
-use crate::words::{Command, command_of, path_of};
+use crate::words::{Command, command_of, path_of, second_path_of};
 use crate::worlds::{Desktop, Status, World};
 use link_port::{Files, Sink, Source, Text};
 use session_core::{Stop, serve_alone};
 use std::alloc::Global;
+
+/// The words of the commands, one a line.
+const HELP: &str = "check\nformat\nsheet\nsession\nhelp\ncompat\n";
 
 /// Runs the command that these words mean, and gives the status to end with.
 ///
 /// `session` serves the calls that come from the input, and writes the replies to the output.
 /// `check PATH` prints `ok` and the name of the definition in that file, and `format PATH` its
 /// canonical text. `sheet PATH` tells how many interfaces, registers and rules the sheet in that file has.
+/// `compat OLD NEW` prints `compatible` where the definition in the file NEW can take the place of the one in
+/// the file OLD, and else tells the first difference, status 10; both files are read before what they hold is.
+/// `help` prints the words of the commands.
 /// All other words are bad words, status 1. A fault is told by a line in the sink of
 /// faults; that the line cannot be written changes nothing. The call always returns, and takes at most
 /// 2^40 bytes.
@@ -48,7 +57,20 @@ pub fn offline<S: Source, O: Sink, E: Sink, F: Files>(
         → world.new ≡ record world.old { faults = world.new.faults } }
 {
     let outcome = run(alloc, words, world);
-    conclude(&mut world.faults, path_of(words), outcome)
+    let path = path_told(words, &outcome);
+    conclude(&mut world.faults, path, outcome)
+}
+
+// The path of the file that failed, where one did.
+fn path_told<'a>(words: &'a [Text], outcome: &Result<(), Fault>) -> &'a str
+    ensures { result.now ≡ told_path words.now outcome.now }
+{
+    match outcome {
+        Err(Fault::Unreadable(Which::Second) | Fault::PastLimit(Which::Second)) => {
+            second_path_of(words)
+        }
+        _ => path_of(words),
+    }
 }
 
 // Does what the words mean, but for telling a fault.
@@ -58,7 +80,7 @@ fn run<S: Source, O: Sink, E: Sink, F: Files>(
     world: &mut Desktop<S, O, E, F>,
 ) -> Result<(), Fault>
     requires { AreOpen (⟦<Desktop<S, O, E, F> as World>⟧.ends world.old) }
-    ensures ran { Ran (command words.now) (path_word words.now)
+    ensures ran { Ran (command words.now) (path_word words.now) (second_path_word words.now)
         (⟦<Desktop<S, O, E, F> as World>⟧.ends world.old)
         (⟦<Desktop<S, O, E, F> as World>⟧.ends world.new) result }
     ensures kept { KeepsOthers (⟦<Desktop<S, O, E, F> as World>⟧.ends world.old)
@@ -74,6 +96,8 @@ fn run<S: Source, O: Sink, E: Sink, F: Files>(
         Some(Command::Check) => definition(alloc, Showing::Name, path_of(words), world),
         Some(Command::Format) => definition(alloc, Showing::Text, path_of(words), world),
         Some(Command::Sheet) => sheet(alloc, path_of(words), world),
+        Some(Command::Help) => show_fixed(HELP, &mut world.output),
+        Some(Command::Compat) => compat(alloc, path_of(words), second_path_of(words), world),
         None => Err(Fault::BadWords),
     }
 }
@@ -143,6 +167,32 @@ fn sheet<S: Source, O: Sink, E: Sink, F: Files>(
         Ok(sheet) => {
             let shown = show_counts(&sheet, &mut world.output);
             drop(sheet);
+            shown
+        }
+        Err(fault) => Err(fault),
+    }
+}
+
+// Reads the definitions at these two paths, and tells whether the new one can take the old one's place.
+fn compat<S: Source, O: Sink, E: Sink, F: Files>(
+    alloc: Global,
+    old: &str,
+    new: &str,
+    world: &mut Desktop<S, O, E, F>,
+) -> Result<(), Fault>
+    requires { AreOpen (⟦<Desktop<S, O, E, F> as World>⟧.ends world.old) }
+    ensures compares { ComparesFiles old.now new.now (⟦<Desktop<S, O, E, F> as World>⟧.ends world.old)
+        (⟦<Desktop<S, O, E, F> as World>⟧.ends world.new) result }
+    ensures kept { KeepsOthers (⟦<Desktop<S, O, E, F> as World>⟧.ends world.old)
+        (⟦<Desktop<S, O, E, F> as World>⟧.ends world.new) }
+    ensures open { AreOpen (⟦<Desktop<S, O, E, F> as World>⟧.ends world.new) }
+    ensures faults { world.new.faults ≡ world.old.faults }
+    ensures input { world.new.input ≡ world.old.input }
+{
+    match read_both(alloc, &mut world.files, old, new) {
+        Ok((old, new)) => {
+            let shown = show_verdict(alloc, &old, &new, &mut world.output);
+            drop((old, new));
             shown
         }
         Err(fault) => Err(fault),

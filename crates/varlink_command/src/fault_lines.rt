@@ -70,18 +70,19 @@ fn wording_of<'a>(fault: &'a Fault, path: &'a str, digits: &'a str) -> Wording<'
 {
     match fault {
         Fault::BadWords => plain("bad words"),
-        Fault::Unreadable => Wording {
+        Fault::Unreadable(_) => Wording {
             before: "cannot read ",
             middle: path,
             behind: "",
         },
-        Fault::PastLimit => Wording {
+        Fault::PastLimit(_) => Wording {
             before: "",
             middle: path,
             behind: " is too long",
         },
         Fault::NoDefinition(why) => refusal(why, digits),
         Fault::NoSheet(_) => unreachable!(),
+        Fault::Incompatible(line) => plain(line.as_str()),
         Fault::Cut { .. } => Wording {
             before: "cut after ",
             middle: digits,

@@ -5,21 +5,33 @@ ghost use Rattle.varlink_command.specs.Faults.{status_of, number_of, refusal_num
 use crate::worlds::Status;
 use idl_grammar::IdlFault;
 use idl_token::TokenFault;
+use link_port::Text;
 use sheet_form::SheetFault;
+
+/// Which of the files that the words name.
+#[derive(Debug, Clone, Copy, PartialEq, Eq)]
+pub enum Which {
+    /// The first one.
+    First,
+    /// The one behind it.
+    Second,
+}
 
 /// Why a command did not do what it was asked for.
 #[derive(Drop)]
 pub enum Fault {
     /// The words are those of no command.
     BadWords,
-    /// The file at the path cannot be read.
-    Unreadable,
-    /// The file at the path holds more bytes than it may.
-    PastLimit,
-    /// The file at the path holds no definition. Want of memory is not told by it.
+    /// A file cannot be read.
+    Unreadable(Which),
+    /// A file holds more bytes than it may.
+    PastLimit(Which),
+    /// A file holds no definition. Want of memory is not told by it.
     NoDefinition(IdlFault),
     /// The file at the path holds no sheet. Want of memory is not told by it.
     NoSheet(SheetFault),
+    /// A definition cannot take the place of another one. The text tells why.
+    Incompatible(Text),
     /// The input ended with so many bytes after the last whole message.
     Cut {
         /// The number of bytes.
@@ -52,12 +64,13 @@ impl Fault {
     {
         Status(match self {
             Fault::BadWords => 1,
-            Fault::PastLimit | Fault::NoDefinition(_) | Fault::NoSheet(_) => 2,
+            Fault::PastLimit(_) | Fault::NoDefinition(_) | Fault::NoSheet(_) => 2,
             Fault::Cut { .. } | Fault::NotCall { .. } | Fault::TooLong { .. } => 3,
-            Fault::Unreadable | Fault::ReadFault => 5,
+            Fault::Unreadable(_) | Fault::ReadFault => 5,
             Fault::WriteFault => 6,
             Fault::Memory => 7,
             Fault::Long => 8,
+            Fault::Incompatible(_) => 10,
         })
     }
 

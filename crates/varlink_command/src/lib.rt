@@ -2,6 +2,7 @@
 #![tactic(auto)]
 
 mod commands;
+mod comparing;
 mod fault_lines;
 mod faults;
 mod pieces;
@@ -17,7 +18,7 @@ mod worlds;
 
 pub use commands::{offline, refuse};
 pub use fault_lines::write_fault_line;
-pub use faults::Fault;
+pub use faults::{Fault, Which};
 pub use real_files::RealFiles;
 pub use real_streams::{RealInput, RealOutput};
 pub use worlds::{Desktop, Status, World};

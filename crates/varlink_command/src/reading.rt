@@ -1,9 +1,9 @@
 // Definitions and sheets are read from files.
-ghost use Rattle.std.specs.Prelude.{◌≡◌, ℕ, List};
-ghost use Rattle.varlink_command.specs.Definitions.{AsksOnce, ReadsDefinition, ReadsFile, FilesFault};
+ghost use Rattle.std.specs.Prelude.{◌≡◌, ◌++◌, ◌∷◌, [], ℕ, List, Some, IfSome, OnOk};
+ghost use Rattle.varlink_command.specs.Definitions.{AsksOnce, ReadsDefinition, ReadsFile, ReadsText, FilesFault, is_want as want};
 ghost use Rattle.varlink_command.specs.Sheets.{ReadsSheet, is_memory};
 
-use crate::faults::Fault;
+use crate::faults::{Fault, Which};
 use idl_grammar::{IdlFault, read};
 use idl_tree::Checked;
 use link_port::{FileFault, Files, List};
@@ -12,7 +12,7 @@ use sheet_form::{Sheet, SheetFault};
 use std::alloc::Global;
 
 /// The most bytes that a definition's file may hold.
-const DEFINITION_LIMIT: u64 = 1_048_576;
+pub const DEFINITION_LIMIT: u64 = 1_048_576;
 
 /// Reads the definition that the file at this path holds.
 pub fn read_definition<F: Files>(alloc: Global, files: &mut F, path: &str) -> Result<Checked, Fault>
@@ -21,15 +21,31 @@ pub fn read_definition<F: Files>(alloc: Global, files: &mut F, path: &str) -> Re
     ensures asked { AsksOnce (F.paths files.old) (F.paths files.new) path.now }
     ensures kept { (name : List ℕ) → F.holds files.new name ≡ F.holds files.old name }
 {
-    let bytes = match read_file(alloc, files, path, DEFINITION_LIMIT) {
+    let bytes = match read_file(alloc, files, Which::First, path, DEFINITION_LIMIT) {
         Ok(bytes) => bytes,
         Err(fault) => return Err(fault),
     };
-    match read(alloc, bytes.as_slice()) {
+    definition_of(alloc, bytes.as_slice())
+}
+
+/// Reads a text as a definition.
+pub fn definition_of(alloc: Global, text: &[u8]) -> Result<Checked, Fault>
+    ensures { ReadsText text.now result }
+{
+    match read(alloc, text) {
         Ok(tree) => Ok(tree),
-        Err(IdlFault::Memory) => Err(Fault::Memory),
+        Err(why) if is_want(&why) => {
+            drop(why);
+            Err(Fault::Memory)
+        }
         Err(why) => Err(Fault::NoDefinition(why)),
     }
+}
+
+fn is_want(why: &IdlFault) -> bool
+    ensures { result ≡ want why.now }
+{
+    matches!(why, IdlFault::Memory)
 }
 
 /// Reads the sheet that the file at this path holds.
@@ -39,7 +55,7 @@ pub fn read_sheet<F: Files>(alloc: Global, files: &mut F, path: &str) -> Result<
     ensures asked { AsksOnce (F.paths files.old) (F.paths files.new) path.now }
     ensures kept { (name : List ℕ) → F.holds files.new name ≡ F.holds files.old name }
 {
-    let bytes = match read_file(alloc, files, path, SHEET_LIMIT) {
+    let bytes = match read_file(alloc, files, Which::First, path, SHEET_LIMIT) {
         Ok(bytes) => bytes,
         Err(fault) => return Err(fault),
     };
@@ -59,22 +75,25 @@ fn is_memory(why: &SheetFault) -> bool
     matches!(why, SheetFault::Memory)
 }
 
-// Reads what the file at this path holds, which is at most `limit` bytes.
-fn read_file<F: Files>(
+/// Reads what the file at this path holds, which is at most `limit` bytes. It is this one of the files that
+/// the words name.
+pub fn read_file<F: Files>(
     alloc: Global,
     files: &mut F,
+    which: Which,
     path: &str,
     limit: u64,
 ) -> Result<List<u8>, Fault>
-    ensures reads { ReadsFile limit (F.holds files.old path.now) result }
+    ensures reads { ReadsFile which limit (F.holds files.old path.now) result }
     ensures counted { FilesFault (F.faults files.old) (F.faults files.new) result }
     ensures asked { AsksOnce (F.paths files.old) (F.paths files.new) path.now }
+    ensures done { OnOk result (IfSome (F.paths files.old) (λ paths. F.paths files.new ≡ Some (paths ++ path.now ∷ []))) }
     ensures kept { (name : List ℕ) → F.holds files.new name ≡ F.holds files.old name }
 {
     match files.read(alloc, path, limit) {
         Ok(bytes) => Ok(bytes),
-        Err(FileFault::Failed) => Err(Fault::Unreadable),
-        Err(FileFault::TooLong) => Err(Fault::PastLimit),
+        Err(FileFault::Failed) => Err(Fault::Unreadable(which)),
+        Err(FileFault::TooLong) => Err(Fault::PastLimit(which)),
         Err(FileFault::Memory) => Err(Fault::Memory),
     }
 }

@@ -20,8 +20,8 @@ returns-clause-runs g c =
     let status = c.conclude.result.0 in
     record {
       outcome = outcome;
-      ran = Ran-told _ _ _ _ after outcome c.run-outcome.ensures.ran;
-      told = subst (λ (path : List ℕ). Concludes path outcome (seen c.args.world.now.faults) after status) c.path_of.ensures
-          (subst (λ (faults : g.row.E.Denot). Concludes c.path_of.result.now outcome (seen faults) after status) c.run-outcome.ensures.faults
+      ran = Ran-told _ _ _ _ _ after outcome c.run-outcome.ensures.ran;
+      told = subst (λ (path : List ℕ). Concludes path outcome (seen c.args.world.now.faults) after status) c.path_told-path.ensures
+          (subst (λ (faults : g.row.E.Denot). Concludes c.path_told-path.result.now outcome (seen faults) after status) c.run-outcome.ensures.faults
           c.conclude.ensures.told);
     }
