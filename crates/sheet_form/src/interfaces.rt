@@ -44,8 +44,8 @@ impl Model for Interfaces {
 }
 
 impl Interfaces {
-    // No interfaces. It takes no memory.
-    fn none(alloc: Global) -> Interfaces
+    /// No interfaces. It takes no memory.
+    pub(crate) fn none(alloc: Global) -> Interfaces
         ensures { result ≡ [] }
     {
         Interfaces {

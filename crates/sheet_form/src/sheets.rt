@@ -1,5 +1,5 @@
 // Whole sheets.
-ghost use Rattle.std.specs.Prelude.{◌≡◌, true, length, List, Result};
+ghost use Rattle.std.specs.Prelude.{◌≡◌, true, length, List, [], IfOk, Result};
 ghost use Rattle.std.specs.List.{list_all, AllByRecursion};
 ghost use Rattle.rule_form.specs.Floats.{rule_has_no_float};
 ghost use Rattle.rule_form.specs.Rules.{interface_place};
@@ -17,7 +17,7 @@ use crate::registers::read_registers;
 use crate::rule_places::RulePlaces;
 use crate::rules::read_rules;
 use idl_tree::Checked;
-use link_port::{List, Text};
+use link_port::{List, Memory, Text};
 use sheet_draft::{DraftFault, Info, RegisterDraft, SheetDraft};
 use sheet_rules::{Register, Rule};
 use std::alloc::Global;
@@ -64,6 +64,22 @@ impl Model for Sheet {
 }
 
 impl Sheet {
+    /// The sheet that says who made the service, and nothing else.
+    pub fn bare(alloc: Global, info: Info) -> Result<Sheet, Memory>
+        ensures { IfOk result (λ sheet. sheet ≡ record { info = info; interfaces = []; registers = []; rules = [] }) }
+    {
+        match assembled(
+            alloc,
+            info,
+            Interfaces::none(alloc),
+            List::new(alloc),
+            List::new(alloc),
+        ) {
+            Ok(sheet) => Ok(sheet),
+            Err(_) => Err(Memory),
+        }
+    }
+
     /// Who made the service.
     pub fn info(&self) -> &Info
         ensures { result.now ≡ self.now.info }
