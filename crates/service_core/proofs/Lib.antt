@@ -1,0 +1,9 @@
+mod Cuts
+mod Members
+mod Ways
+mod Replied
+mod Fitting
+mod Lists
+mod Left
+mod CalledRules
+mod Told

@@ -1,0 +1,10 @@
+pub mod Sheets
+pub mod Served
+pub mod Descriptions
+pub mod Places
+pub mod Outcomes
+pub mod Lates
+pub mod States
+pub mod Tells
+pub mod Comes
+pub mod Renders
