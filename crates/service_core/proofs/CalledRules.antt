@@ -13,6 +13,14 @@ pub ok_map : {A E : Type 0} (r : Result A E) (P Q : A → Type 0) → ((x : A) �
 ok_map (Ok x) P Q each is = each x is
 ok_map (Err e) P Q each is = tt
 
+pub ok_both : {A E : Type 0} (r : Result A E) (P Q R : A → Type 0) → ((x : A) → P x → Q x → R x) → IfOk r P → IfOk r Q → IfOk r R
+ok_both (Ok x) P Q R each is other = each x is other
+ok_both (Err e) P Q R each is other = tt
+
+pub on_err : {A E : Type 0} (r : Result A E) (Q : Type 0) → Q → OnErr r Q
+on_err (Ok x) Q is = tt
+on_err (Err e) Q is = is
+
 -- what follows from a result in both its cases
 pub in_both : {A E : Type 0} (r : Result A E) (P : A → Type 0) (Q R : Type 0) → ((x : A) → P x → R) → (Q → R) → IfOk r P → OnErr r Q → R
 in_both (Ok x) P Q R ok err is none = ok x is

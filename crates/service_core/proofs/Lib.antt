@@ -5,5 +5,10 @@ mod Replied
 mod Fitting
 mod Lists
 mod Left
+mod Kept
+mod Good
+mod Running
 mod CalledRules
 mod Told
+mod Answering
+mod Unchanged

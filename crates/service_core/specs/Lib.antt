@@ -8,3 +8,4 @@ pub mod States
 pub mod Tells
 pub mod Comes
 pub mod Renders
+pub mod Runs

@@ -1,6 +1,7 @@
 //! A service of a sheet: how it answers calls, one after another (varlink.org, "Method Call" and "Service").
 #![tactic(auto)]
 
+mod alones;
 mod finishing;
 mod infos;
 mod kinds;
@@ -9,9 +10,11 @@ mod places;
 mod renderings;
 mod replies;
 mod requests;
+mod runs;
 mod services;
 mod words;
 
+pub use alones::Alone;
 pub use lates::Late;
 pub use renderings::Rendering;
 pub use requests::{Placed, Request};

@@ -7,6 +7,7 @@ ghost use Rattle.service_core.specs.Sheets.{bare_sheet};
 ghost use Rattle.service_core.specs.Descriptions.{info_of, description_of};
 ghost use Rattle.service_core.specs.Places.{place_of, placed};
 ghost use Rattle.service_core.specs.Comes.{IsComeTo};
+ghost use Rattle.service_core.specs.Runs.{AsksGood};
 ghost use Rattle.service_core.specs.Outcomes.{outcome_of};
 ghost use Rattle.service_core.specs.Renders.{left_of, Renders, PlacedFits};
 ghost use Rattle.service_core.specs.declared.requests.Request.{Request};
@@ -120,7 +121,9 @@ impl Service {
         requires { IsObject call.now.parameters }
         ensures placed { IfOk result (λ there. there ≡ placed (place_of self.now call.now)) }
         ensures fits { IfOk result (λ there. PlacedFits call.now there) }
+        ensures good { IfOk result (λ there. AsksGood self.now there) }
     {
+        let _rules = self.sheet().rules();
         place(alloc, self, call)
     }
 
