@@ -88,7 +88,8 @@ pub fn render<'a>(
 
 // One reply that is there.
 fn given<'a>(alloc: Global, reply: Reply, raw: Option<Raw>) -> Result<Rendering<'a>, Memory>
-    ensures { IfOk result (λ replies. replies ≡ rendering.Given (record { replies = reply ∷ []; raw = raw })) }
+    ensures { IfOk result
+        (λ replies. replies ≡ rendering.Given (record { replies = reply ∷ []; raw = raw })) }
 {
     let mut replies = List::new(alloc);
     replies.push(reply)?;

@@ -98,7 +98,8 @@ fn step_on(
     requires good { IsGood sheet.now request.now }
     requires typed { IsTyped (record { sheet = sheet.now; registers = registers.old }) }
     ensures stepped { IfOk result (λ done.
-        stepped (record { sheet = sheet.now; registers = registers.old }) request.now ≡ Some (done, registers.new)) }
+        stepped (record { sheet = sheet.now; registers = registers.old }) request.now
+        ≡ Some (done, registers.new)) }
     ensures comes { IfOk result (λ done. MayCome sheet.now request.now.rule done) }
     ensures typed { IsTyped (record { sheet = sheet.now; registers = registers.new }) }
     ensures memory { OnErr result (registers.new ≡ registers.old) }

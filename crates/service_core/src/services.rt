@@ -131,9 +131,11 @@ impl Service {
     /// asked for.
     pub fn finish(&self, alloc: Global, call: &Call, done: Done) -> Result<Rendering<'_>, Memory>
         requires { IsComeTo self.now call.now done }
-        ensures outcome { IfOk result (λ replies. (request : Request) → place_of self.now call.now ≡ Ok request
+        ensures outcome { IfOk result (λ replies. (request : Request)
+            → place_of self.now call.now ≡ Ok request
             → left_of replies ≡ outcome_of self.now request.rule done) }
-        ensures renders { IfOk result (λ replies. (request : Request) → place_of self.now call.now ≡ Ok request
+        ensures renders { IfOk result (λ replies. (request : Request)
+            → place_of self.now call.now ≡ Ok request
             → Renders self.now request.rule done replies) }
         ensures fits { IfOk result (λ replies. Fits call.now (left_of replies)) }
     {
