@@ -1,0 +1,3 @@
+pub mod ReplyLemmas
+pub mod CallPieces
+pub mod TextsBack
