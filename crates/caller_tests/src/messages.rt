@@ -22,7 +22,10 @@ fn first_fault(alloc: Global, payload: &[u8]) -> Option<ReplyFault> {
 fn tells_the_first_fault(rt: HostRuntime) {
     let rows: [(&[u8], Option<ReplyFault>); 15] = [
         (b"\xff", Some(ReplyFault::NotUtf8 { at: 0 })),
-        (b"{\"error\":\"\xc3\"}", Some(ReplyFault::NotUtf8 { at: 10 })),
+        (
+            b"{\"error\":\"\xc3\"}",
+            Some(ReplyFault::NotUtf8 { at: 10 }),
+        ),
         (b"", Some(ReplyFault::NotJson)),
         (b"{\"parameters\":{}", Some(ReplyFault::NotJson)),
         (b"[]", Some(ReplyFault::NotObject)),
