@@ -10,6 +10,10 @@ mod definitions;
 #[cfg(test)]
 mod rows;
 #[cfg(test)]
+mod served;
+#[cfg(test)]
+mod served_sheets;
+#[cfg(test)]
 mod sessions;
 #[cfg(test)]
 mod sheets;

@@ -9,12 +9,11 @@ const GET_INFO: &[u8] = b"{\"method\":\"org.varlink.service.GetInfo\"}\0";
 const INFO: &[u8] = b"{\"parameters\":{\"interfaces\":[\"org.varlink.service\"],\
 \"product\":\"varlink\",\"url\":\"https://varlink.org\",\"vendor\":\"Varlink\",\"version\":\"1\"}}\0";
 
-const MISSING: &[u8] = b"{\"error\":\"org.varlink.service.MethodNotImplemented\",\"parameters\":\
-{\"method\":\"Ping\"}}\0";
+const MISSING: &[u8] = b"{\"error\":\"org.varlink.service.InterfaceNotFound\",\"parameters\":\
+{\"interface\":\"Ping\"}}\0";
 
-const NOT_DESCRIBED: &[u8] =
-    b"{\"error\":\"org.varlink.service.MethodNotImplemented\",\"parameters\":\
-{\"method\":\"org.varlink.service.GetInterfaceDescription\"}}\0";
+const NOT_NAMED: &[u8] = b"{\"error\":\"org.varlink.service.InvalidParameter\",\"parameters\":\
+{\"parameter\":\"interface\"}}\0";
 
 /// The line of an input whose first message is no call.
 const NO_CALL: &str = "message 0 is no call";
@@ -39,7 +38,7 @@ const ANSWERED: [(&[u8], &[u8]); 6] = [
     (b"{\"method\":\"Ping\"}\0", MISSING),
     (
         b"{\"method\":\"org.varlink.service.GetInterfaceDescription\"}\0",
-        NOT_DESCRIBED,
+        NOT_NAMED,
     ),
     (b"{\"method\":\"Ping\",\"oneway\":true}\0", b""),
     (b"{\"method\":\"Ping\",\"more\":null}\0", MISSING),

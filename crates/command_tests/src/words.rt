@@ -2,11 +2,12 @@
 use crate::rows::{NOTHING, Row, are_right};
 use std::alloc::Global;
 
-const WORDS: [&[&str]; 10] = [
+const WORDS: [&[&str]; 11] = [
     &[],
     &["check"],
     &["Session"],
-    &["session", "session"],
+    &["session", "--d"],
+    &["session", "d", "n"],
     &["check", "--d"],
     &["compat", "d"],
     &["compat", "--d", "n"],

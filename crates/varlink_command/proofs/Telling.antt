@@ -5,10 +5,11 @@ use Rattle.idl_tree.specs.declared.trees.Interface.{Interface}
 use Rattle.varlink_command.specs.declared.faults.Fault.{Fault}
 use Rattle.varlink_command.specs.declared.showing.Showing.{Showing}
 use Rattle.varlink_command.specs.declared.words.Command.{Command}
-use Rattle.varlink_command.specs.declared.words.Command.TheVariants.{Session, Check, Format, Sheet, Help, Compat}
+use Rattle.varlink_command.specs.declared.words.Command.TheVariants.{Session, SheetSession, Check, Format, Sheet, Help, Compat}
 use Rattle.varlink_command.specs.Comparing.{ComparesFiles, ComparesRead}
 use Rattle.varlink_command.specs.Definitions.{ShowsDefinition, ShowsRead}
 use Rattle.varlink_command.specs.Ends.{Ends, Object}
+use Rattle.varlink_command.specs.Sessions.{ServesRead, ServesSession, ServesSheet}
 use Rattle.varlink_command.specs.Sheets.{CountsRead, CountsSheet}
 use Rattle.sheet_form.specs.declared.sheets.Contents.{Contents}
 use Rattle.varlink_command.specs.Offline.{Ran}
@@ -62,11 +63,31 @@ compares-told old new before after faults outcome compared = record {
   shows = compares-read compared.read before after faults outcome compared.shows;
 }
 
+session-told : (sheet : Contents) (before after : Ends) (faults : Object) (outcome : Result ⊤ Fault) →
+    ServesSession sheet before after outcome → ServesSession sheet before (told after faults) outcome
+session-told sheet before after faults outcome served =
+    record { why = served.why; served = served.served; reads = served.reads; writes = served.writes; comes = served.comes }
+
+serves-read : (read : Result Contents Fault) (before after : Ends) (faults : Object) (outcome : Result ⊤ Fault) →
+    ServesRead read before after outcome → ServesRead read before (told after faults) outcome
+serves-read (Ok sheet) before after faults outcome serves = session-told sheet before after faults outcome serves
+serves-read (Err why) before after faults outcome serves = serves
+
+serves-told : (path : List ℕ) (before after : Ends) (faults : Object) (outcome : Result ⊤ Fault) →
+    ServesSheet path before after outcome → ServesSheet path before (told after faults) outcome
+serves-told path before after faults outcome served = record {
+  read = served.read;
+  reads = served.reads;
+  counted = served.counted;
+  asked = served.asked;
+  serves = serves-read served.read before after faults outcome served.serves;
+}
+
 pub Ran-told : (command : Option Command) (path second : List ℕ) (before after : Ends) (faults : Object) (outcome : Result ⊤ Fault) →
     Ran command path second before after outcome → Ran command path second before (told after faults) outcome
 Ran-told None path second before after faults outcome ran = ran
-Ran-told (Some Session) path second before after faults outcome ran =
-    record { why = ran.why; served = ran.served; reads = ran.reads; writes = ran.writes; comes = ran.comes }
+Ran-told (Some Session) path second before after faults outcome ran = session-told _ before after faults outcome ran
+Ran-told (Some SheetSession) path second before after faults outcome ran = serves-told path before after faults outcome ran
 Ran-told (Some Check) path second before after faults outcome ran = shows-told _ path before after faults outcome ran
 Ran-told (Some Format) path second before after faults outcome ran = shows-told _ path before after faults outcome ran
 Ran-told (Some Sheet) path second before after faults outcome ran = counts-told path before after faults outcome ran

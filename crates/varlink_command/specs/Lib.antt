@@ -4,7 +4,6 @@ pub mod Ends
 pub mod Faults
 pub mod FaultTexts
 pub mod FixedTexts
-pub mod FixedService
 pub mod Lines
 pub mod Offline
 pub mod Sessions

@@ -8,14 +8,15 @@ use Rattle.varlink_command.specs.declared.faults.Fault.TheVariants as fault
 use Rattle.varlink_command.specs.declared.faults.Which.TheVariants.{Second}
 use Rattle.varlink_command.specs.declared.showing.Showing.TheVariants as showing
 use Rattle.varlink_command.specs.declared.words.Command.{Command}
-use Rattle.varlink_command.specs.declared.words.Command.TheVariants.{Session, Check, Format, Sheet, Help, Compat}
+use Rattle.varlink_command.specs.declared.words.Command.TheVariants.{Session, SheetSession, Check, Format, Sheet, Help, Compat}
+use Rattle.service_core.specs.Sheets.{bare_sheet}
 use Rattle.varlink_command.specs.Comparing.{ComparesFiles}
 use Rattle.varlink_command.specs.FixedTexts.{ShowsFixed, help_text}
 use Rattle.varlink_command.specs.Definitions.{ShowsDefinition}
 use Rattle.varlink_command.specs.Ends.{Ends, Object, PutsNothing}
 use Rattle.varlink_command.specs.Faults.{status_of}
 use Rattle.varlink_command.specs.FaultTexts.{fault_line}
-use Rattle.varlink_command.specs.Sessions.{ServesSession}
+use Rattle.varlink_command.specs.Sessions.{ServesSession, ServesSheet}
 use Rattle.varlink_command.specs.Sheets.{CountsSheet}
 use Rattle.varlink_command.specs.Words.{command, path_of, second_path_of}
 
@@ -23,8 +24,10 @@ use Rattle.varlink_command.specs.Words.{command, path_of, second_path_of}
 abbrev pub Ran : Option Command → List ℕ → List ℕ → Ends → Ends → Result ⊤ Fault → Type 0
 -- no command: nothing
 Ran None path second before after outcome = outcome ≡ Err fault.BadWords
--- `session`: the session machine from the input to the output
-Ran (Some Session) path second before after outcome = ServesSession before after outcome
+-- `session`: the session machine from the input to the output, by the service without a sheet
+Ran (Some Session) path second before after outcome = ServesSession bare_sheet before after outcome
+-- `session PATH`: the same by the service of the sheet in that file
+Ran (Some SheetSession) path second before after outcome = ServesSheet path before after outcome
 -- `check PATH`: the name of the definition in that file
 Ran (Some Check) path second before after outcome = ShowsDefinition showing.Name path before after outcome
 -- `format PATH`: its canonical text

@@ -2,7 +2,7 @@
 use Rattle.std.specs.Prelude.{ℕ, ◌==◌, ◌&&◌, ◌||◌, Bool, false, List, [], ◌∷◌, codes, if◌then◌else◌, Option, Some, None}
 use Rattle.std.specs.Cmp.Lexicographic.{pointwise}
 use Rattle.varlink_command.specs.declared.words.Command.{Command}
-use Rattle.varlink_command.specs.declared.words.Command.TheVariants.{Session, Check, Format, Sheet, Help, Compat}
+use Rattle.varlink_command.specs.declared.words.Command.TheVariants.{Session, SheetSession, Check, Format, Sheet, Help, Compat}
 
 abbrev pub is_word : List ℕ → List ℕ → Bool
 is_word word other = pointwise ◌==◌ word other
@@ -21,14 +21,16 @@ sole_command word = if is_word word (codes "session") then Some Session
 -- the command whose word takes a path
 abbrev pub path_command : List ℕ → Option Command
 path_command word = if is_word word (codes "check") then Some Check
-    else (if is_word word (codes "format") then Some Format else (if is_word word (codes "sheet") then Some Sheet else None))
+    else (if is_word word (codes "format") then Some Format
+    else (if is_word word (codes "sheet") then Some Sheet
+    else (if is_word word (codes "session") then Some SheetSession else None)))
 
 -- the command whose word takes two paths
 abbrev pub pair_command : List ℕ → Option Command
 pair_command word = if is_word word (codes "compat") then Some Compat else None
 
--- `session`, `help`, `check PATH`, `format PATH`, `sheet PATH` and `compat OLD NEW`; no option is known, and no other words
--- are a command
+-- `session`, `help`, `check PATH`, `format PATH`, `sheet PATH`, `session PATH` and `compat OLD NEW`; no option is known, and
+-- no other words are a command
 abbrev pub command : List (List ℕ) → Option Command
 command (word ∷ []) = sole_command word
 command (word ∷ path ∷ []) = if is_option path then None else path_command word

@@ -5,7 +5,6 @@ ghost use Rattle.varlink_command.specs.Comparing.{ComparesFiles};
 ghost use Rattle.varlink_command.specs.Definitions.{ShowsDefinition};
 ghost use Rattle.varlink_command.specs.Ends.{AreOpen, KeepsOthers};
 ghost use Rattle.varlink_command.specs.Offline.{Concludes, Ran, Runs, path_told as told_path};
-ghost use Rattle.varlink_command.specs.Sessions.{ServesSession, outcome_of as stop_outcome};
 ghost use Rattle.varlink_command.specs.Sheets.{CountsSheet};
 ghost use Rattle.varlink_command.specs.Words.{command, path_of as path_word, second_path_of as second_path_word};
 
@@ -14,13 +13,12 @@ use crate::fault_lines::write_fault_line;
 use crate::faults::{Fault, Which};
 use crate::pieces::show_fixed;
 use crate::reading::{read_definition, read_sheet};
-use crate::services::FixedService;
+use crate::serving::{session, sheet_session};
 use crate::sheets::show_counts;
 use crate::showing::{Showing, show};
 use crate::words::{Command, command_of, path_of, second_path_of};
 use crate::worlds::{Desktop, Status, World};
 use link_port::{Files, Sink, Source, Text};
-use session_core::{Stop, serve_alone};
 use std::alloc::Global;
 
 /// The words of the commands, one a line.
@@ -28,7 +26,8 @@ const HELP: &str = "check\nformat\nsheet\nsession\nhelp\ncompat\n";
 
 /// Runs the command that these words mean, and gives the status to end with.
 ///
-/// `session` serves the calls that come from the input, and writes the replies to the output.
+/// `session` serves the calls that come from the input by the service without a sheet, and writes the replies
+/// to the output; `session PATH` by the service of the sheet in that file, from the registers that it begins with.
 /// `check PATH` prints `ok` and the name of the definition in that file, and `format PATH` its
 /// canonical text. `sheet PATH` tells how many interfaces, registers and rules the sheet in that file has.
 /// `compat OLD NEW` prints `compatible` where the definition in the file NEW can take the place of the one in
@@ -51,7 +50,8 @@ pub fn offline<S: Source, O: Sink, E: Sink, F: Files>(
         (⟦<Desktop<S, O, E, F> as World>⟧.ends world.new) }
     ensures open { AreOpen (⟦<Desktop<S, O, E, F> as World>⟧.ends world.new) }
     // what a command does not use is not touched
-    ensures input { command words.now ≢ Some Command.Session → world.new.input ≡ world.old.input }
+    ensures input { command words.now ≢ Some Command.Session → command words.now ≢ Some Command.SheetSession
+        → world.new.input ≡ world.old.input }
     ensures files { command words.now ≡ Some Command.Session → world.new.files ≡ world.old.files }
     ensures refused { command words.now ≡ None
         → world.new ≡ record world.old { faults = world.new.faults } }
@@ -87,12 +87,14 @@ fn run<S: Source, O: Sink, E: Sink, F: Files>(
         (⟦<Desktop<S, O, E, F> as World>⟧.ends world.new) }
     ensures open { AreOpen (⟦<Desktop<S, O, E, F> as World>⟧.ends world.new) }
     ensures faults { world.new.faults ≡ world.old.faults }
-    ensures input { command words.now ≢ Some Command.Session → world.new.input ≡ world.old.input }
+    ensures input { command words.now ≢ Some Command.Session → command words.now ≢ Some Command.SheetSession
+        → world.new.input ≡ world.old.input }
     ensures files { command words.now ≡ Some Command.Session → world.new.files ≡ world.old.files }
     ensures refused { command words.now ≡ None → world.new ≡ world.old }
 {
     match command_of(words) {
         Some(Command::Session) => session(alloc, world),
+        Some(Command::SheetSession) => sheet_session(alloc, path_of(words), world),
         Some(Command::Check) => definition(alloc, Showing::Name, path_of(words), world),
         Some(Command::Format) => definition(alloc, Showing::Text, path_of(words), world),
         Some(Command::Sheet) => sheet(alloc, path_of(words), world),
@@ -100,29 +102,6 @@ fn run<S: Source, O: Sink, E: Sink, F: Files>(
         Some(Command::Compat) => compat(alloc, path_of(words), second_path_of(words), world),
         None => Err(Fault::BadWords),
     }
-}
-
-// Serves the calls that come from the input by the service without a sheet.
-fn session<S: Source, O: Sink, E: Sink, F: Files>(
-    alloc: Global,
-    world: &mut Desktop<S, O, E, F>,
-) -> Result<(), Fault>
-    requires { AreOpen (⟦<Desktop<S, O, E, F> as World>⟧.ends world.old) }
-    ensures serves { ServesSession (⟦<Desktop<S, O, E, F> as World>⟧.ends world.old)
-        (⟦<Desktop<S, O, E, F> as World>⟧.ends world.new) result }
-    ensures kept { KeepsOthers (⟦<Desktop<S, O, E, F> as World>⟧.ends world.old)
-        (⟦<Desktop<S, O, E, F> as World>⟧.ends world.new) }
-    ensures open { AreOpen (⟦<Desktop<S, O, E, F> as World>⟧.ends world.new) }
-    ensures faults { world.new.faults ≡ world.old.faults }
-    ensures files { world.new.files ≡ world.old.files }
-{
-    let stop = serve_alone(
-        alloc,
-        &mut world.input,
-        &mut world.output,
-        &mut FixedService,
-    );
-    outcome_of(stop)
 }
 
 // Reads the definition at this path, and shows it.
@@ -196,22 +175,6 @@ fn compat<S: Source, O: Sink, E: Sink, F: Files>(
             shown
         }
         Err(fault) => Err(fault),
-    }
-}
-
-// What a command that serves a session comes to, where the session stopped so.
-fn outcome_of(stop: Stop) -> Result<(), Fault>
-    ensures { result ≡ stop_outcome stop }
-{
-    match stop {
-        Stop::End | Stop::Upgraded | Stop::Full { .. } | Stop::Worn => Ok(()),
-        Stop::Cut { bytes } => Err(Fault::Cut { bytes }),
-        Stop::NotCall { index, .. } => Err(Fault::NotCall { index }),
-        Stop::TooLong { index } => Err(Fault::TooLong { index }),
-        Stop::ReadFault => Err(Fault::ReadFault),
-        Stop::WriteFault => Err(Fault::WriteFault),
-        Stop::Long => Err(Fault::Long),
-        Stop::Memory => Err(Fault::Memory),
     }
 }
 

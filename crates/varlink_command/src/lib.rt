@@ -9,7 +9,7 @@ mod pieces;
 mod reading;
 mod real_files;
 mod real_streams;
-mod services;
+mod serving;
 mod sheet_lines;
 mod sheets;
 mod showing;

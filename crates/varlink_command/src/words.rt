@@ -7,8 +7,10 @@ use link_port::Text;
 /// A command that needs no network.
 #[derive(Debug, Clone, Copy, PartialEq, Eq)]
 pub enum Command {
-    /// Serves the calls that come from standard input.
+    /// Serves the calls that come from standard input by the service without a sheet.
     Session,
+    /// Serves the calls that come from standard input by the service of a sheet.
+    SheetSession,
     /// Checks a definition.
     Check,
     /// Prints a definition in its canonical text.
@@ -54,6 +56,7 @@ fn command_on_path(word: &str) -> Option<Command>
         "check" => Some(Command::Check),
         "format" => Some(Command::Format),
         "sheet" => Some(Command::Sheet),
+        "session" => Some(Command::SheetSession),
         _ => None,
     }
 }

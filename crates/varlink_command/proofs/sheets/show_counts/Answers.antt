@@ -13,7 +13,7 @@ returns-in-Ok-clause-shows g c =
     counts_joined (λ (text : List ℕ). Appends (ends.written c.args.output.now) (ends.written c.put_texts-put.new.sink) text
     × (ends.write_faults c.put_texts-put.new.sink ≡ ends.write_faults c.args.output.now))
     (length sheet.interfaces) (length sheet.registers) (length sheet.rules)
-    (rw (c.format-interfaces.ensures.text, c.format-registers.ensures.text, c.format-rules.ensures.text, c.interfaces.ensures, c.registers.ensures, c.rules.ensures.rules)
+    (rw (c.format-interfaces.ensures.text, c.format-registers.ensures.text, c.format-rules.ensures.text, c.interfaces.ensures, c.registers.ensures.registers, c.rules.ensures.rules)
     at c.in-Ok.ensures.all)
 
 pub returns-in-Err-clause-shows : goal.returns-in-Err-clause-shows
@@ -23,5 +23,5 @@ returns-in-Err-clause-shows g c =
     counts_joined (λ (text : List ℕ). AppendsFront (ends.written c.args.output.now) (ends.written c.put_texts-put.new.sink) text
     × Rises (ends.write_faults c.args.output.now) (ends.write_faults c.put_texts-put.new.sink))
     (length sheet.interfaces) (length sheet.registers) (length sheet.rules)
-    (rw (c.format-interfaces.ensures.text, c.format-registers.ensures.text, c.format-rules.ensures.text, c.interfaces.ensures, c.registers.ensures, c.rules.ensures.rules)
+    (rw (c.format-interfaces.ensures.text, c.format-registers.ensures.text, c.format-rules.ensures.text, c.interfaces.ensures, c.registers.ensures.registers, c.rules.ensures.rules)
     at c.in-Err.ensures.all)
