@@ -110,6 +110,23 @@ got=$?
 cat info.replies info.replies info.replies >"$work/thrice"
 compare 'a client that waits for each reply' 0 "$work/thrice" - "$got"
 
+# ---- a session of a sheet
+
+# a text with calls, each in a line that begins with `    > `, and their replies, in lines that begin with `    < `
+locks=$top/examples/locks
+sed -n 's/^    > //p' "$locks.md" | tr '\n' '\0' >"$work/in"
+sed -n 's/^    < //p' "$locks.md" | tr '\n' '\0' >"$work/replies"
+expect 'the calls of the locks' 0 "$work/replies" - session "$locks.json" <"$work/in"
+expect_unwritten 'the calls of the locks' 'write fault' session "$locks.json"
+printf 'interfaces 1\nregisters 3\nrules 4\n' >"$work/counts"
+expect 'the sheet of the locks' 0 "$work/counts" - sheet "$locks.json" </dev/null
+expect 'the definition of the locks' 0 "$top/examples/org.example.locks.varlink" - format "$top/examples/org.example.locks.varlink" </dev/null
+printf '%s\0abc' '{"method":"org.example.count.Echo","upgrade":true}' >"$work/in"
+printf '%s\0abc' '{"parameters":{}}' >"$work/replies"
+expect 'raw bytes after an upgrade' 0 "$work/replies" - session "$top/examples/count.json" <"$work/in"
+expect 'a session of a missing sheet' 5 - 'cannot read missing.json' session missing.json <info.calls
+expect 'a session of no sheet' 2 - 'not JSON' session good.varlink <info.calls
+
 # ---- check and format
 
 echo 'ok org.example.count' >"$work/ok"
