@@ -54,7 +54,7 @@ behind_all key (member next d ms) h =
     (swap_less key next less, behind_all key ms (second_true (is_lt (slice_cmp nat_cmp key next)) (is_before_all key (member_keys ms)) h))
 
 mutual
-  tree_sound : (d : Data) → has_only_ints d ≡ true → is_as_read d ≡ true → IsSound d
+  pub tree_sound : (d : Data) → has_only_ints d ≡ true → is_as_read d ≡ true → IsSound d
   tree_sound null h as_read = tt
   tree_sound (boolean b) h as_read = tt
   tree_sound (number n) h as_read = whole_number n h as_read
