@@ -1,0 +1,4 @@
+pub mod Asking
+pub mod Addresses
+pub mod Descriptions
+pub mod FaultTexts
