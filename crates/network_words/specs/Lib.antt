@@ -1,0 +1,4 @@
+pub mod Settings
+pub mod Given
+pub mod Numbers
+pub mod Meanings
