@@ -17,9 +17,9 @@ pub ok_both : {A E : Type 0} (r : Result A E) (P Q R : A → Type 0) → ((x : A
 ok_both (Ok x) P Q R each is other = each x is other
 ok_both (Err e) P Q R each is other = tt
 
-pub on_err : {A E : Type 0} (r : Result A E) (Q : Type 0) → Q → OnErr r Q
-on_err (Ok x) Q is = tt
-on_err (Err e) Q is = is
+pub err_map : {A E : Type 0} (r : Result A E) (P Q : Type 0) → (P → Q) → OnErr r P → OnErr r Q
+err_map (Ok x) P Q then is = tt
+err_map (Err e) P Q then is = then is
 
 -- what follows from a result in both its cases
 pub in_both : {A E : Type 0} (r : Result A E) (P : A → Type 0) (Q R : Type 0) → ((x : A) → P x → R) → (Q → R) → IfOk r P → OnErr r Q → R

@@ -4,6 +4,7 @@ pub mod Descriptions
 pub mod Places
 pub mod Outcomes
 pub mod Lates
+pub mod Upgrades
 pub mod States
 pub mod Tells
 pub mod Comes

@@ -1,6 +1,5 @@
 -- A request that is run on registers.
-use Rattle.std.specs.Prelude.{◌≡◌, Bool, true, List, Some, slice_get, ⊤}
-use Rattle.sheet_rules.specs.Types.{passes}
+use Rattle.std.specs.Prelude.{◌≡◌, true, List, Some, slice_get, ⊤}
 use Rattle.idl_tree.specs.declared.trees.Interface.{Interface}
 use Rattle.idl_tree.specs.declared.trees.Body.{Body}
 use Rattle.typed_value.specs.OfType.{is_of_body}
@@ -15,7 +14,6 @@ use Rattle.service_core.specs.declared.requests.Placed.TheVariants.{Answered, As
 use Rattle.service_core.specs.declared.renderings.Rendering.{Rendering}
 use Rattle.service_core.specs.Comes.{MayCome}
 use Rattle.service_core.specs.Outcomes.{outcome_of}
-use Rattle.service_core.specs.Places.{is_upgrade}
 use Rattle.service_core.specs.Renders.{left_of, Renders}
 use Rattle.service_core.specs.States.{State}
 use Rattle.service_core.specs.Tells.{stepped}
@@ -38,10 +36,6 @@ pub record IsGood (sheet : Contents) (request : Request) : Type 0 where
 abbrev pub AsksGood : Contents → Placed → Type 0
 AsksGood sheet (Answered outcome) = ⊤
 AsksGood sheet (Ask request) = IsGood sheet request
-
--- its rule is an upgrade
-abbrev pub asks_upgrade : Contents → Request → Bool
-asks_upgrade sheet request = passes is_upgrade (slice_get sheet.rules request.rule)
 
 -- the request was one step of its rule, which came to these replies and left these registers
 pub record Ran (state : State) (request : Request) (replies : Rendering) (after : List Val) : Type 0 where

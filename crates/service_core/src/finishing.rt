@@ -1,23 +1,24 @@
 // The replies to calls whose steps are done.
-ghost use Rattle.std.specs.Prelude.{◌≡◌, [], ◌∷◌, Ok, IfOk, option_map};
+ghost use Rattle.std.specs.Prelude.{◌≡◌, Ok, IfOk, OnErr, option_map};
 ghost use Rattle.session_core.specs.Outcomes.{Fits};
 ghost use Rattle.service_core.specs.Sheets.{output_of, error_of};
-ghost use Rattle.service_core.specs.Places.{place_of, plain};
+ghost use Rattle.service_core.specs.Places.{place_of, one};
 ghost use Rattle.service_core.specs.Comes.{IsComeTo, MayCome, called};
 ghost use Rattle.service_core.specs.Outcomes.{shown, refusal_of, outcome_of};
-ghost use Rattle.service_core.specs.Renders.{left_of, Renders};
+ghost use Rattle.service_core.specs.Renders.{left_of, Renders, Refuses};
 ghost use Rattle.service_core.specs.declared.requests.Request.{Request};
 ghost use Rattle.service_core.specs.declared.renderings.Rendering.TheVariants as rendering;
 
 use crate::kinds::{error_of, interface_named, output_of, rule_named};
 use crate::lates::Late;
 use crate::renderings::Rendering;
-use crate::replies::{bad_parameter, plain};
+use crate::replies::{bad_parameter, one};
 use crate::services::Service;
+use crate::upgrades::Upgrade;
 use crate::words::at_last_dot;
-use call_form::{Call, Outcome, Raw, Reply};
+use call_form::{Call, Reply};
 use idl_tree::{Body, Checked};
-use link_port::{List, Memory, Text, Value};
+use link_port::{Memory, Text, Value};
 use serde_json::Value as Json;
 use session_core::Given;
 use sheet_form::Sheet;
@@ -25,23 +26,43 @@ use sheet_step::Done;
 use std::alloc::Global;
 use typed_value::{Val, show_fields};
 
-/// The replies to a call whose step came to this.
-pub fn finish<'a>(
-    alloc: Global,
-    service: &'a Service,
-    call: &Call,
-    done: Done,
-) -> Result<Rendering<'a>, Memory>
-    requires { IsComeTo service.now call.now done }
-    ensures outcome { IfOk result (λ replies. (request : Request) → place_of service.now call.now ≡ Ok request
-        → left_of replies ≡ outcome_of service.now request.rule done) }
-    ensures renders { IfOk result (λ replies. (request : Request) → place_of service.now call.now ≡ Ok request
-        → Renders service.now request.rule done replies) }
-    ensures fits { IfOk result (λ replies. Fits call.now (left_of replies)) }
-{
-    match called(service.sheet(), call.method.as_str()) {
-        Some(rule) => render(alloc, service, rule, done),
-        None => unreachable!(),
+impl Service {
+    /// The replies to a call whose step came to this. Those that follow each other are made when they are
+    /// asked for, and so is the one that accepts an upgrade.
+    pub fn finish(&self, alloc: Global, call: &Call, done: Done) -> Result<Rendering<'_>, Memory>
+        requires { IsComeTo self.now call.now done }
+        ensures outcome { IfOk result (λ replies. (request : Request)
+            → place_of self.now call.now ≡ Ok request
+            → left_of replies ≡ outcome_of self.now request.rule done) }
+        ensures renders { IfOk result (λ replies. (request : Request)
+            → place_of self.now call.now ≡ Ok request
+            → Renders self.now request.rule done replies) }
+        ensures fits { IfOk result (λ replies. Fits call.now (left_of replies)) }
+    {
+        match called(self.sheet(), call.method.as_str()) {
+            Some(rule) => self.render(alloc, rule, done),
+            None => unreachable!(),
+        }
+    }
+
+    /// The replies to a request of the rule at a place, whose step came to this. Want of memory comes only
+    /// where the step was refused, and so changed nothing.
+    pub fn render(&self, alloc: Global, rule: u64, done: Done) -> Result<Rendering<'_>, Memory>
+        requires { MayCome self.now rule done }
+        ensures outcome { IfOk result (λ replies. left_of replies ≡ outcome_of self.now rule done) }
+        ensures renders { IfOk result (λ replies. Renders self.now rule done replies) }
+        ensures memory { OnErr result (Refuses done) }
+    {
+        match done {
+            Done::Replies(values) => Ok(Rendering::Late(Late::new(self, rule, values))),
+            Done::Upgrade { raw, parameters } => {
+                Ok(Rendering::Upgrade(Upgrade::new(self, rule, raw, parameters)))
+            }
+            Done::Refused { error, parameters } => {
+                given(alloc, refusal(alloc, self, rule, error, parameters)?)
+            }
+            Done::TooDeep => given(alloc, bad_parameter(alloc, "depth")?),
+        }
     }
 }
 
@@ -55,45 +76,11 @@ fn called(sheet: &Sheet, word: &str) -> Option<u64>
     Some(rule)
 }
 
-/// The replies to a request of the rule at a place, whose step came to this.
-pub fn render<'a>(
-    alloc: Global,
-    service: &'a Service,
-    rule: u64,
-    done: Done,
-) -> Result<Rendering<'a>, Memory>
-    requires { MayCome service.now rule done }
-    ensures outcome { IfOk result (λ replies. left_of replies ≡ outcome_of service.now rule done) }
-    ensures renders { IfOk result (λ replies. Renders service.now rule done replies) }
-{
-    match done {
-        Done::Replies(values) => Ok(Rendering::Late(Late::new(service, rule, values))),
-        Done::Refused { error, parameters } => {
-            given(
-                alloc,
-                refusal(alloc, service, rule, error, parameters)?,
-                None,
-            )
-        }
-        Done::Upgrade { raw, parameters } => {
-            given(
-                alloc,
-                accepted(alloc, service, rule, parameters)?,
-                Some(raw),
-            )
-        }
-        Done::TooDeep => given(alloc, bad_parameter(alloc, "depth")?, None),
-    }
-}
-
 // One reply that is there.
-fn given<'a>(alloc: Global, reply: Reply, raw: Option<Raw>) -> Result<Rendering<'a>, Memory>
-    ensures { IfOk result
-        (λ replies. replies ≡ rendering.Given (record { replies = reply ∷ []; raw = raw })) }
+fn given<'a>(alloc: Global, reply: Reply) -> Result<Rendering<'a>, Memory>
+    ensures { IfOk result (λ replies. replies ≡ rendering.Given (one reply)) }
 {
-    let mut replies = List::new(alloc);
-    replies.push(reply)?;
-    Ok(Rendering::Given(Given::new(Outcome { replies, raw })))
+    Ok(Rendering::Given(Given::new(one(alloc, reply)?)))
 }
 
 // The reply that tells of a refused guard.
@@ -119,15 +106,6 @@ fn refusal(
             Err(Memory)
         }
     }
-}
-
-// The reply that accepts an upgrade.
-fn accepted(alloc: Global, service: &Service, rule: u64, parameters: Val) -> Result<Reply, Memory>
-    ensures { IfOk result (λ reply. reply ≡ plain (shown (output_of service.now rule) parameters)) }
-{
-    let shown = show(alloc, service, rule, &parameters);
-    drop(parameters);
-    Ok(plain(shown?))
 }
 
 /// The parameters of a reply of the rule at a place.

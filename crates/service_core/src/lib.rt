@@ -12,6 +12,7 @@ mod replies;
 mod requests;
 mod runs;
 mod services;
+mod upgrades;
 mod words;
 
 pub use alones::Alone;
@@ -19,3 +20,4 @@ pub use lates::Late;
 pub use renderings::Rendering;
 pub use requests::{Placed, Request};
 pub use services::Service;
+pub use upgrades::Upgrade;

@@ -3,6 +3,7 @@ ghost use Rattle.std.specs.Prelude.{◌≡◌};
 ghost use Rattle.service_core.specs.Renders.{left_of};
 
 use crate::lates::Late;
+use crate::upgrades::Upgrade;
 use call_form::{Raw, Reply};
 use link_port::Memory;
 use session_core::{Given, Replies};
@@ -15,6 +16,8 @@ pub enum Rendering<'a> {
     Given(Given),
     /// They are made when they are asked for.
     Late(Late<'a>),
+    /// They are the one that accepts an upgrade, which is made when it is asked for.
+    Upgrade(Upgrade<'a>),
 }
 
 impl<'a> Replies for Rendering<'a> {
@@ -24,6 +27,7 @@ impl<'a> Replies for Rendering<'a> {
         match self {
             Rendering::Given(given) => given.next(alloc),
             Rendering::Late(late) => late.next(alloc),
+            Rendering::Upgrade(upgrade) => upgrade.next(alloc),
         }
     }
 
@@ -31,6 +35,7 @@ impl<'a> Replies for Rendering<'a> {
         match self {
             Rendering::Given(given) => given.raw(),
             Rendering::Late(late) => late.raw(),
+            Rendering::Upgrade(upgrade) => upgrade.raw(),
         }
     }
 }

@@ -1,44 +1,40 @@
 // Services.
 ghost use Rattle.std.specs.Prelude.{◌≡◌, map, option_map, IfOk};
 ghost use Rattle.idl_rules.specs.Canon.{Canon};
+ghost use Rattle.std.specs.Arc.{arc_value};
 ghost use Rattle.std.specs.List.{AllByRecursion};
 ghost use Rattle.service_core.specs.Served.{IsServed};
 ghost use Rattle.service_core.specs.Sheets.{bare_sheet};
 ghost use Rattle.service_core.specs.Descriptions.{info_of, description_of};
 ghost use Rattle.service_core.specs.Places.{place_of, placed};
-ghost use Rattle.service_core.specs.Comes.{IsComeTo};
 ghost use Rattle.service_core.specs.Runs.{AsksGood};
-ghost use Rattle.service_core.specs.Outcomes.{outcome_of};
-ghost use Rattle.service_core.specs.Renders.{left_of, Renders, PlacedFits};
-ghost use Rattle.service_core.specs.declared.requests.Request.{Request};
-ghost use Rattle.session_core.specs.Outcomes.{Fits};
+ghost use Rattle.service_core.specs.Renders.{PlacedFits};
 ghost use Rattle.call_form.specs.CallOf.{IsObject};
 ghost use Rattle.link_port.specs.SoundTrees.{HasUtf8};
 
-use crate::finishing::finish;
 use crate::infos::info_object;
 use crate::places::place;
-use crate::renderings::Rendering;
 use crate::requests::Placed;
 use call_form::{Call, SERVICE_TEXT};
 use idl_print::text;
 use idl_tree::Checked;
 use link_port::{List, Memory, Text, Value};
 use sheet_form::{Info, Sheet};
-use sheet_step::Done;
 use std::alloc::Global;
 use std::marker::Model;
+use std::sync::Arc;
 
 /// A service of a sheet, which contracts see as what the sheet says.
 #[derive(Drop)]
 pub struct Service {
-    sheet: Sheet,
+    sheet: Arc<Sheet, Global>,
     // The canonical text of each interface of the sheet, in order.
     texts: List<Text>,
 }
 
 impl Model for Service {
     ghost use Rattle.std.specs.Prelude.{◌≡◌, map};
+    ghost use Rattle.std.specs.Arc.{arc_value};
     ghost use Rattle.std.specs.List.{AllByRecursion};
     ghost use Rattle.idl_rules.specs.Canon.{Canon};
     ghost use Rattle.sheet_form.specs.declared.sheets.Contents.{Contents};
@@ -49,10 +45,10 @@ impl Model for Service {
 
     ghost coded = { stored.the_row.coded };
 
-    ghost view = { λ service. service.sheet };
+    ghost view = { λ service. arc_value service.sheet };
 
-    ghost invariant = { λ service. (service.texts ≡ map Canon service.sheet.interfaces)
-        × AllByRecursion IsServed service.sheet.interfaces };
+    ghost invariant = { λ service. (service.texts ≡ map Canon (arc_value service.sheet).interfaces)
+        × AllByRecursion IsServed (arc_value service.sheet).interfaces };
 }
 
 impl Service {
@@ -61,7 +57,7 @@ impl Service {
         ensures { IfOk result (λ service. service ≡ sheet) }
     {
         match texts_of(alloc, sheet.interfaces()) {
-            Ok(texts) => Ok(Service { sheet, texts }),
+            Ok(texts) => with_texts(alloc, sheet, texts),
             Err(stop) => {
                 drop(sheet);
                 Err(stop)
@@ -82,6 +78,17 @@ impl Service {
         ensures served { AllByRecursion IsServed self.now.interfaces }
     {
         &self.sheet
+    }
+
+    /// Shares the sheet, without a copy of it. `Memory` is told where no further owner can be counted.
+    pub fn shared(&self) -> Result<Arc<Sheet, Global>, Memory>
+        ensures sheet { IfOk result (λ sheet. arc_value sheet ≡ self.now) }
+        ensures served { AllByRecursion IsServed self.now.interfaces }
+    {
+        match Arc::try_clone(&self.sheet) {
+            Ok(sheet) => Ok(sheet),
+            Err(_) => Err(Memory),
+        }
     }
 
     /// Who made the service, and which interfaces it has: the parameters of the reply to `GetInfo`.
@@ -126,20 +133,20 @@ impl Service {
         let _rules = self.sheet().rules();
         place(alloc, self, call)
     }
+}
 
-    /// The replies to a call whose step came to this. Those that follow each other are made when they are
-    /// asked for.
-    pub fn finish(&self, alloc: Global, call: &Call, done: Done) -> Result<Rendering<'_>, Memory>
-        requires { IsComeTo self.now call.now done }
-        ensures outcome { IfOk result (λ replies. (request : Request)
-            → place_of self.now call.now ≡ Ok request
-            → left_of replies ≡ outcome_of self.now request.rule done) }
-        ensures renders { IfOk result (λ replies. (request : Request)
-            → place_of self.now call.now ≡ Ok request
-            → Renders self.now request.rule done replies) }
-        ensures fits { IfOk result (λ replies. Fits call.now (left_of replies)) }
-    {
-        finish(alloc, self, call, done)
+// The service of a sheet whose interfaces have these texts.
+fn with_texts(alloc: Global, sheet: Sheet, texts: List<Text>) -> Result<Service, Memory>
+    requires texts { texts ≡ map Canon sheet.interfaces }
+    requires served { AllByRecursion IsServed sheet.interfaces }
+    ensures { IfOk result (λ service. service ≡ sheet) }
+{
+    match Arc::new(alloc, sheet) {
+        Ok(sheet) => Ok(Service { sheet, texts }),
+        Err(failed) => {
+            drop((failed, texts));
+            Err(Memory)
+        }
     }
 }
 

@@ -6,15 +6,15 @@ use Rattle.service_core.specs.declared.renderings.Rendering.{Rendering}
 use Rattle.service_core.specs.Outcomes.{outcome_of}
 use Rattle.service_core.specs.Renders.{left_of, Renders}
 use Rattle.service_core.specs.Runs.{Ran}
-use Rattle.service_core.proofs.CalledRules.{ok_both, on_err}
+use Rattle.service_core.proofs.CalledRules.{ok_both, err_map}
 use Rattle.service_core.proofs.Unchanged.{unchanged}
-use Rattle.service_core.proofs.runs.run_in_place.Goals as goal
+use Rattle.service_core.proofs.runs.run.Goals as goal
 
 pub returns-clause-ran : goal.returns-clause-ran
 returns-clause-ran c =
     let service = c.args.service.now in
     let before = c.args.registers.now in
-    let after = c.step_on.new.registers in
+    let after = c.run.new.registers in
     let told = subst (λ (s : Contents). stepped (record { sheet = s; registers = before }) c.args.request ≡ Some (c.in_ok-done.done, after))
     c.sheet.ensures.sheet c.in_ok-done.ensures.stepped in
     let comes = subst (λ (s : Contents). MayCome s c.args.request.rule c.in_ok-done.done) c.sheet.ensures.sheet c.in_ok-done.ensures.comes in
@@ -34,8 +34,7 @@ returns-clause-ran c =
 pub returns-clause-memory : goal.returns-clause-memory
 returns-clause-memory c =
     let before = c.args.registers.now in
-    let after = c.step_on.new.registers in
+    let after = c.run.new.registers in
     let told = subst (λ (s : Contents). stepped (record { sheet = s; registers = before }) c.args.request ≡ Some (c.in_ok-done.done, after))
     c.sheet.ensures.sheet c.in_ok-done.ensures.stepped in
-    let comes = subst (λ (s : Contents). MayCome s c.args.request.rule c.in_ok-done.done) c.sheet.ensures.sheet c.in_ok-done.ensures.comes in
-    on_err c.render.result _ (unchanged c.args.service.now c.args.request before after c.requires.good c.in_ok-done.done told comes c.requires.stays c.in_default.not-Replies)
+    err_map c.render.result _ _ (unchanged c.args.service.now c.args.request before after c.requires.good c.in_ok-done.done told) c.render.ensures.memory

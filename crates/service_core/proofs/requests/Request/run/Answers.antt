@@ -6,12 +6,12 @@ use Rattle.sheet_step.specs.Step.{step}
 use Rattle.service_core.specs.Runs.{IsTyped}
 use Rattle.service_core.proofs.CalledRules.{ok_map, in_both}
 use Rattle.service_core.proofs.Running.{home_from, is_there, has_home, can_step, may_come, keeps}
-use Rattle.service_core.proofs.runs.step_on.Goals as goal
+use Rattle.service_core.proofs.requests.Request.run.Goals as goal
 
 pub step-requires : goal.step-requires
 step-requires c =
     let sheet = c.args.sheet.now in
-    let request = c.args.request.now in
+    let request = c.args.self.now in
     let rule = c.in-Some.rule.now in
     let home = c.in-Some-home_of.home.now in
     rw (c.as_str-name.ensures, c.tree.ensures.tree) (can_step sheet request c.args.registers.now c.requires.good c.requires.typed rule home
@@ -20,7 +20,7 @@ step-requires c =
 pub returns-clause-comes : goal.returns-clause-comes
 returns-clause-comes c =
     let sheet = c.args.sheet.now in
-    let request = c.args.request.now in
+    let request = c.args.self.now in
     let rule = c.in-Some.rule.now in
     let home = c.in-Some-home_of.home.now in
     let named = c.as_str-name.ensures ∙ ap (λ (i : Interface). i.name) c.tree.ensures.tree in
@@ -32,7 +32,7 @@ returns-clause-comes c =
 pub returns-clause-typed : goal.returns-clause-typed
 returns-clause-typed c =
     let sheet = c.args.sheet.now in
-    let request = c.args.request.now in
+    let request = c.args.self.now in
     let rule = c.in-Some.rule.now in
     let home = c.in-Some-home_of.home.now in
     let named = c.as_str-name.ensures ∙ ap (λ (i : Interface). i.name) c.tree.ensures.tree in
