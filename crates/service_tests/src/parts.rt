@@ -17,7 +17,18 @@ fn is_told(alloc: Global, service: &Service) -> bool {
     let count = service.describe("org.example.count") == Some(DEFINITION.as_bytes());
     let none = service.describe("org.example.coun").is_none();
     let vendor = service.sheet().info().vendor.as_str() == "Example";
-    own && count && none && vendor && has_info(alloc, service)
+    own && count && none && vendor && has_info(alloc, service) && is_shared(service)
+}
+
+fn is_shared(service: &Service) -> bool {
+    match service.shared() {
+        Ok(sheet) => {
+            let right = sheet.info().vendor.as_str() == "Example";
+            drop(sheet);
+            right
+        }
+        Err(Memory) => false,
+    }
 }
 
 fn has_info(alloc: Global, service: &Service) -> bool {

@@ -1,6 +1,7 @@
 // Calls to services, and what is written for them.
 ghost use Rattle.std.specs.Prelude.{◌≡◌, false, IfOk};
 
+use crate::sheets::OPENED;
 use link_port::{List, MemSink, MemSource, Memory};
 use service_core::{Alone, Service};
 use session_core::{Stop, serve_alone};
@@ -22,6 +23,13 @@ const BARE: [(&str, &str); 3] = [
         "{\"error\":\"org.varlink.service.InterfaceNotFound\",\"parameters\":{\"interface\":\"a.b\"}}\0",
     ),
 ];
+
+/// A refused upgrade, which leaves the register as it was, and one that is accepted: its reply shows the
+/// register after the step, and behind it the bytes come back.
+const UPGRADES: [(&str, &str); 1] = [(
+    "{\"method\":\"a.b.Open\",\"parameters\":{\"by\":-1},\"upgrade\":true}\0{\"method\":\"a.b.Open\",\"parameters\":{\"by\":2},\"upgrade\":true}\0raw\0bytes",
+    "{\"error\":\"a.b.Shut\",\"parameters\":{\"by\":-1}}\0{\"parameters\":{\"opened\":2}}\0raw\0bytes",
+)];
 
 /// What a session is served with.
 #[derive(Drop)]
@@ -103,8 +111,12 @@ fn is_served<'x>(
     right
 }
 
-fn are_bare<'x>(alloc: Global, rows: &'x [(&'x str, &'x str)]) -> bool {
-    let Ok(service) = Service::bare(alloc) else {
+fn are_served<'x>(
+    alloc: Global,
+    made: Result<Service, Memory>,
+    rows: &'x [(&'x str, &'x str)],
+) -> bool {
+    let Ok(service) = made else {
         return false;
     };
     let mut right = true;
@@ -117,5 +129,10 @@ fn are_bare<'x>(alloc: Global, rows: &'x [(&'x str, &'x str)]) -> bool {
 
 #[test]
 fn the_bare_service_is_served(rt: HostRuntime) {
-    assert!(rt; are_bare(rt.alloc(), &BARE));
+    assert!(rt; are_served(rt.alloc(), Service::bare(rt.alloc()), &BARE));
+}
+
+#[test]
+fn upgrades_are_accepted_by_one_reply(rt: HostRuntime) {
+    assert!(rt; are_served(rt.alloc(), service_of(rt.alloc(), OPENED), &UPGRADES));
 }

@@ -1,4 +1,4 @@
-// The sheet that is served.
+// The sheets that are served.
 
 /// The count sheet.
 pub const COUNT: &str =
@@ -23,3 +23,13 @@ pub const COUNT: &str =
 /// The definition of the count sheet.
 pub const DEFINITION: &str =
     "interface org.example.count\n\ntype Entry (name: string, amount: int)\n\nmethod Add(amount: int) -> (total: int)\n\nmethod List() -> (entry: ?Entry, done: bool)\n\nmethod Note(entry: Entry, tag: string) -> ()\n\nmethod Echo() -> ()\n\nmethod Ping() -> ()\n\nerror Negative (amount: int)\n";
+
+/// A sheet with an upgrade that changes a register.
+pub const OPENED: &str = r#"{"sheet":1,"vendor":"V","product":"P","version":"1","url":"u",
+ "interfaces":["interface a.b\n\nmethod Open(by: int) -> (opened: int)\n\nerror Shut (by: int)\n"],
+ "registers":[{"name":"opened","scope":"a.b","type":"int","initial":0}],
+ "rules":{"a.b.Open":{
+   "guards":[{"need":{"less":[{"const":0},{"param":["by"]}]},
+              "else":"Shut","with":{"struct":{"by":{"param":["by"]}}}}],
+   "steps":[{"set":"opened","to":{"sum":[{"register":["opened"]},{"param":["by"]}]}}],
+   "outcome":{"upgrade":"echo","reply":{"struct":{"opened":{"register":["opened"]}}}}}}}"#;
