@@ -1,1 +1,2 @@
 pub mod RealLinks
+pub mod RealDoors

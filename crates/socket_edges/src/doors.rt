@@ -1,14 +1,17 @@
 // A door of the system.
 ghost use Rattle.std.specs.Prelude.{◌≡◌};
+ghost use Rattle.socket_edges.specs.RealDoors.{IsUnused};
 
 use crate::connections::RealConn;
 use crate::fault_counts::FaultCount;
+use crate::socket_files::SocketFile;
 use crate::streams::Stream;
 use link_doors::{Leave, Listener};
 use link_port::Failed;
 use std::io;
 use std::net::TcpListener;
 use std::os::unix::net::UnixListener;
+use std::rt::Files;
 
 /// What connections are accepted from.
 #[derive(Debug, Drop)]
@@ -47,20 +50,32 @@ pub struct RealDoor {
     stated: Option<u64>,
     given: u64,
     faults: FaultCount,
+    // The file that was made for it and the doors beside it, if it is this one that has it.
+    file: Option<SocketFile>,
 }
 
 impl RealDoor {
     /// A door that gives so many connections, or any number.
-    pub(crate) fn new(listening: Listening, stated: Option<u64>) -> RealDoor
-        ensures stated { result.stated ≡ stated }
-        ensures given { result.given ≡ 0 }
-        ensures sound { result.faults.count ≡ 0 }
+    pub(crate) fn new(
+        listening: Listening,
+        stated: Option<u64>,
+        file: Option<SocketFile>,
+    ) -> RealDoor
+        ensures { IsUnused stated result }
     {
         RealDoor {
             listening,
             stated,
             given: 0,
             faults: FaultCount::new(),
+            file,
+        }
+    }
+
+    /// Removes the file that was made for it, if it has that.
+    pub(crate) fn remove_file<R: Files>(&mut self, system: &R) {
+        if let Some(file) = self.file.take() {
+            file.remove(system);
         }
     }
 }

@@ -9,10 +9,13 @@ mod doors;
 mod fault_counts;
 mod link_ends;
 mod links;
+mod real_binders;
 mod real_reaches;
+mod socket_files;
 mod streams;
 
 pub use connections::RealConn;
 pub use doors::RealDoor;
 pub use link_ends::{RealDown, RealUp};
+pub use real_binders::RealBinder;
 pub use real_reaches::RealReach;
