@@ -1,7 +1,8 @@
 // The reach over the system.
-ghost use Rattle.std.specs.Prelude.{◌≡◌, ◌≤◌, ◌<◌, IfOk, Ok, Err, Some, length, slice_get};
+ghost use Rattle.std.specs.Prelude.{◌≡◌, ◌≤◌, ◌<◌, ◌++◌, ◌∷◌, [], IfOk, Some, length, vec_len, vec_capacity};
 ghost use Rattle.link_reach.specs.Deeds.{CountsFault};
 ghost use Rattle.link_reach.specs.declared.deeds.LinkState.TheVariants.{Open, Closed};
+ghost use Rattle.socket_edges.specs.declared.links.RealLink.TheVariants as real;
 ghost use Rattle.socket_edges.specs.RealLinks.{state_of, after_halves, AreNew};
 
 use crate::children::LinkedChild;
@@ -59,6 +60,20 @@ impl<
     }
 }
 
+impl<R> RealReach<R> {
+    // Adds a link behind those that were opened before. Room for it was reserved.
+    fn add(&mut self, link: OpenLink) -> LinkNo
+        requires room { vec_len self.old.links < vec_capacity self.old.links }
+        ensures number { result.0 ≡ length self.old.links.items }
+        ensures links { self.new.links.items ≡ self.old.links.items ++ real.Open link ∷ [] }
+        ensures faults { self.new.faults.count ≡ self.old.faults.count }
+    {
+        let number = LinkNo(self.links.len() as u64);
+        self.links.push_reserved(RealLink::Open(link));
+        number
+    }
+}
+
 impl<R: Net<Stream = TcpStream, Listener = TcpListener> + Processes<Started = SystemProcess>> Reach
     for RealReach<R> {
     ghost use Rattle.std.specs.Prelude.{true, [], None, length, slice_get};
@@ -86,10 +101,7 @@ impl<R: Net<Stream = TcpStream, Listener = TcpListener> + Processes<Started = Sy
         }
         let connected = self.connect(address);
         let stream = self.faults.told(connected)?;
-        let link = LinkNo(self.links.len() as u64);
-        self.links
-            .push_reserved(RealLink::Open(OpenLink::Socket(stream)));
-        Ok(link)
+        Ok(self.add(OpenLink::Socket(stream)))
     }
 
     fn dial_child(
@@ -103,10 +115,7 @@ impl<R: Net<Stream = TcpStream, Listener = TcpListener> + Processes<Started = Sy
         }
         let started = LinkedChild::start(&self.system, alloc, program, resolver);
         let child = self.faults.told(started)?;
-        let link = LinkNo(self.links.len() as u64);
-        self.links
-            .push_reserved(RealLink::Open(OpenLink::Child(child)));
-        Ok(link)
+        Ok(self.add(OpenLink::Child(child)))
     }
 
     fn send(&mut self, _alloc: Global, link: LinkNo, piece: &[u8]) -> Result<usize, DialFault> {
