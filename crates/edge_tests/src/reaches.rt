@@ -83,10 +83,10 @@ fn is_halved<R: Reach, L: Listener>(
 
 // Whether two doors at an address serve a link each, give none past that, and nobody listens there any more once
 // they were given back.
-fn is_served<R: Reach, B: Binder>(
+fn is_served<L: Reach, R: Files + Net<Stream = TcpStream, Listener = TcpListener>>(
     alloc: Global,
-    reach: &mut R,
-    binder: &mut B,
+    reach: &mut L,
+    binder: &mut RealBinder<R>,
     address: &Address,
 ) -> bool {
     let Ok(mut doors) = binder.bind(alloc, address, 2, Some(1)) else {

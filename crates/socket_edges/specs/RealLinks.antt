@@ -1,5 +1,5 @@
 -- Links of the system, and what became of them.
-use Rattle.std.specs.Prelude.{◌≡◌, ℕ, false, Option, Some, None, Result, Ok, Err, is_none}
+use Rattle.std.specs.Prelude.{◌≡◌, false, Option, Some, None, Result, Ok, Err, is_none}
 use Rattle.link_reach.specs.declared.deeds.LinkState.{LinkState}
 use Rattle.link_reach.specs.declared.deeds.LinkState.TheVariants as state
 use Rattle.socket_edges.specs.declared.links.RealLink.{RealLink}

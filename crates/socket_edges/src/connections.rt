@@ -1,5 +1,5 @@
 // A connection of the system.
-ghost use Rattle.std.specs.Prelude.{◌≡◌, ◌≤◌, false};
+ghost use Rattle.std.specs.Prelude.{◌≡◌, false};
 
 use crate::fault_counts::FaultCount;
 use crate::streams::{Stream, read_some, write_some};

@@ -1,5 +1,4 @@
 // A door of the system.
-ghost use Rattle.std.specs.Prelude.{◌≡◌};
 ghost use Rattle.socket_edges.specs.RealDoors.{IsUnused};
 
 use crate::connections::RealConn;

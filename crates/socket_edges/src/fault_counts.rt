@@ -1,5 +1,5 @@
 // How many calls of the system failed.
-ghost use Rattle.std.specs.Prelude.{◌≡◌, Ok, IfOk, IfErr, IsErr, OnOk, OnErr};
+ghost use Rattle.std.specs.Prelude.{◌≡◌, Ok, IfOk, IsErr, OnOk, OnErr};
 ghost use Rattle.link_port.specs.Faults.{Rises};
 ghost use Rattle.link_reach.specs.Deeds.{CountsFault};
 

@@ -1,5 +1,5 @@
 // The two ends of a link that was taken out.
-ghost use Rattle.std.specs.Prelude.{◌≡◌, ◌≤◌, ◌<◌, false, true, Some, IfOk, OnOk, OnErr, is_none, length};
+ghost use Rattle.std.specs.Prelude.{◌≡◌, false, is_none};
 
 use crate::children::ChildOutput;
 use crate::fault_counts::FaultCount;

@@ -1,6 +1,5 @@
 // The reach over the system.
 ghost use Rattle.std.specs.Prelude.{◌≡◌, ◌≤◌, ◌<◌, ◌++◌, ◌∷◌, [], IfOk, Some, length, vec_len, vec_capacity};
-ghost use Rattle.link_reach.specs.Deeds.{CountsFault};
 ghost use Rattle.link_reach.specs.declared.deeds.LinkState.TheVariants.{Open, Closed};
 ghost use Rattle.socket_edges.specs.declared.links.RealLink.TheVariants as real;
 ghost use Rattle.socket_edges.specs.RealLinks.{state_of, after_halves, AreNew};
@@ -21,7 +20,8 @@ use std::{io, mem};
 /// The reach over the system: its links are sockets, and programs that it starts. It counts each error of
 /// the system.
 ///
-/// A link that is closed or taken out gives its socket back at once, and leaves a short entry.
+/// A link that is closed or taken out gives its socket back at once, and leaves an entry of a fixed size under
+/// its number. Where a reach is dropped, its open sockets are closed, and its programs are not waited for.
 #[derive(Debug, Drop)]
 pub struct RealReach<R> {
     system: R,

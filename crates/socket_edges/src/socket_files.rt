@@ -25,35 +25,29 @@ impl SocketFile {
     /// Binds a socket to a path, and gives the file that was made there.
     pub fn bind<R: Files + Net>(system: &R, path: Text) -> io::Result<(UnixListener, SocketFile)> {
         let listener = listen(system, path.as_str())?;
-        match socket_at(system, path.as_str()) {
-            Ok(Some(identity)) => Ok((listener, SocketFile { path, identity })),
-            found => {
-                drop((path, found));
-                Err(io::Error::from(ErrorKind::NotFound))
-            }
-        }
+        let identity = socket_at(system, path.as_str())?;
+        Ok((listener, SocketFile { path, identity }))
     }
 
     /// Removes the file, unless another one stands at its path.
     pub fn remove<R: Files>(self, system: &R) {
-        if let Ok(Some(identity)) = socket_at(system, self.path.as_str())
-            && identity == self.identity
-        {
+        let found = socket_at(system, self.path.as_str());
+        if found.is_ok_and(|identity| identity == self.identity) {
             let _ = fs::remove_file(system, self.path.as_str());
         }
     }
 }
 
-// Which socket stands at a path, if the file there is one.
-fn socket_at<R: Files>(system: &R, path: &str) -> io::Result<Option<Identity>> {
+// Which socket stands at a path. A file of another kind is in the way of one.
+fn socket_at<R: Files>(system: &R, path: &str) -> io::Result<Identity> {
     let data = fs::symlink_metadata(system, path)?;
     if !data.file_type().is_socket() {
-        return Ok(None);
+        return Err(io::Error::from(ErrorKind::AddrInUse));
     }
-    Ok(Some(Identity {
+    Ok(Identity {
         device: data.dev(),
         number: data.ino(),
-    }))
+    })
 }
 
 // Binds a socket to a path. A file that stands there is in the way, unless nobody listens at it.
@@ -71,7 +65,7 @@ fn listen<R: Files + Net>(system: &R, path: &str) -> io::Result<UnixListener> {
 // stays.
 fn remove_stale<R: Files + Net>(system: &R, path: &str) -> io::Result<()> {
     let found = socket_at(system, path)?;
-    if found.is_none() || !is_refused(system, path) || socket_at(system, path)? != found {
+    if !is_refused(system, path) || socket_at(system, path)? != found {
         return Err(io::Error::from(ErrorKind::AddrInUse));
     }
     fs::remove_file(system, path)

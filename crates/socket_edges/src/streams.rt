@@ -1,5 +1,5 @@
 // Connected sockets, and reads and writes that a signal does not cut short.
-ghost use Rattle.std.specs.Prelude.{◌≤◌, ◌<◌, IfOk, length};
+ghost use Rattle.std.specs.Prelude.{◌≤◌, IfOk, length};
 
 use std::io;
 use std::io::{ErrorKind, Read, Write};
