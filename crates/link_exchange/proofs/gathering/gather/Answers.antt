@@ -1,0 +1,16 @@
+use Rattle.std.proofs.Common.{refl, ◌∙◌}
+use Rattle.link_exchange.proofs.GatherLemmas.{Gathers-none, Gathers-trans, GatherEnds-after}
+use Rattle.link_exchange.proofs.gathering.gather.Goals as goal
+
+pub messages-init : goal.messages-init
+messages-init c = record { limit = refl; gathered = Gathers-none c.args.asking _ _ _ }
+
+pub messages-preserved : goal.messages-preserved
+messages-preserved c = record {
+  limit = c.gather_one.ensures.limit ∙ c.messages.invariant.limit;
+  gathered = Gathers-trans c.args.asking _ _ _ _ _ _ _ _ _ c.messages.invariant.gathered c.in-Passed.ensures.step.0;
+}
+
+pub returns-in-Ends-clause-ended : goal.returns-in-Ends-clause-ended
+returns-in-Ends-clause-ended c =
+    GatherEnds-after c.args.asking _ _ _ _ _ _ _ _ c.in-Ends.end c.messages.invariant.gathered c.in-Ends.ensures.step

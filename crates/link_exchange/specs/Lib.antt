@@ -1,0 +1,4 @@
+pub mod Limits
+pub mod Taken
+pub mod Stands
+pub mod Gathering
