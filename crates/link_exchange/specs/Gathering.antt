@@ -7,7 +7,7 @@ use Rattle.caller_form.specs.declared.faults.ReplyFault.{ReplyFault}
 use Rattle.caller_form.specs.declared.faults.ReplyFault.TheVariants as fault
 use Rattle.link_exchange.specs.declared.asked.Asking.{Asking}
 use Rattle.link_exchange.specs.declared.ends.AskEnd.{AskEnd}
-use Rattle.link_exchange.specs.declared.ends.AskEnd.TheVariants.{Done, ErrorReply, NotReply, Continues, TooLong, LinkFault, WriteFault, Memory}
+use Rattle.link_exchange.specs.declared.ends.AskEnd.TheVariants.{Done, ErrorReply, NotReply, Continues, Ended, TooLong, Long, LinkFault, WriteFault, Memory}
 use Rattle.link_exchange.specs.declared.gathering.Step.{Step}
 use Rattle.link_exchange.specs.declared.gathering.Step.TheVariants.{Passed, Ends, NeedMore}
 use Rattle.link_exchange.specs.declared.verdicts.Verdict.{Verdict}
@@ -48,6 +48,8 @@ IsOfKind (Astray end) = IsAstray end
 -- these payloads and this end are what is taken; where memory was wanting, these payloads come first
 abbrev pub EndsWith : AskEnd → List (List ℕ) → Taken → Type 0
 EndsWith Memory payloads there = (later : Taken) × (there ≡ takes payloads later)
+EndsWith (Ended index) payloads there = ⊥
+EndsWith Long payloads there = ⊥
 EndsWith LinkFault payloads there = ⊥
 EndsWith WriteFault payloads there = ⊥
 EndsWith end payloads there = there ≡ record { payloads = payloads; end = end }

@@ -2,3 +2,5 @@ pub mod Limits
 pub mod Taken
 pub mod Stands
 pub mod Gathering
+pub mod Passing
+pub mod Exchanges

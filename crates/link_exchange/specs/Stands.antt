@@ -13,3 +13,6 @@ pub record Stand : Type 0 where
   pub left : Option (List ℕ)
   pub written : Option (List ℕ)
   pub inbox : Unread
+
+abbrev pub stand : Option (List Deed) → Option (List ℕ) → Option (List ℕ) → Unread → Stand
+stand log left written inbox = record { log = log; left = left; written = written; inbox = inbox }

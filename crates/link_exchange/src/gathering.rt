@@ -99,6 +99,7 @@ pub fn gather(
     requires index { index.old + length frames.old.bytes < 2 ^ 63 }
     requires room { most_of_reply ≤ frames.old.limit }
     ensures limit { frames.new.limit ≡ frames.old.limit }
+    ensures shorter { length frames.new.bytes ≤ length frames.old.bytes }
     ensures gathered { IfNone result (Gathers asking index.old index.new frames.old.bytes
         frames.new.bytes lines.old.items lines.new.items) }
     ensures settled { IfNone result (IsSettled frames.new.bytes) }

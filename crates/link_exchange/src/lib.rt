@@ -3,8 +3,12 @@
 
 mod asked;
 mod ends;
+mod exchanges;
 mod gathering;
+mod inboxes;
 mod verdicts;
 
 pub use asked::Asking;
 pub use ends::AskEnd;
+pub use exchanges::exchange;
+pub use inboxes::{Inbox, MOST_OF_LINK, TAKE};
