@@ -1,0 +1,4 @@
+mod Stepping
+mod Rows
+mod Hearing
+mod Answering

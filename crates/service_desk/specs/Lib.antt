@@ -1,0 +1,4 @@
+pub mod Boards
+pub mod Seats
+pub mod Hearing
+pub mod Gains
