@@ -4,7 +4,6 @@ use Rattle.std.specs.Prelude.{IsErr, IsErrAnd}
 use Rattle.sheet_step.specs.declared.dones.Done.{Done}
 use Rattle.sheet_form.specs.declared.sheets.Contents.{Contents}
 use Rattle.call_form.specs.declared.Call.{Call}
-use Rattle.call_form.specs.declared.Reply.{Reply}
 use Rattle.call_form.specs.declared.Outcome.{Outcome}
 use Rattle.turn_desk.specs.declared.faults.AskFault.{AskFault}
 use Rattle.turn_desk.specs.declared.faults.AskFault.TheVariants as fault
@@ -17,7 +16,7 @@ use Rattle.service_core.specs.declared.renderings.Rendering.{Rendering}
 use Rattle.service_core.specs.declared.renderings.Rendering.TheVariants as rendering
 use Rattle.service_core.specs.Comes.{MayCome, IsComeTo}
 use Rattle.service_core.specs.Outcomes.{outcome_of}
-use Rattle.service_core.specs.Places.{Way, place_of, placed, one}
+use Rattle.service_core.specs.Places.{Way, place_of, placed}
 use Rattle.service_core.specs.Renders.{Renders}
 use Rattle.service_core.specs.Runs.{IsGood, IsTyped}
 use Rattle.service_core.specs.States.{State}

@@ -1,12 +1,11 @@
 -- What a seat gains over calls.
-use Rattle.std.proofs.Common.{◌≡◌, ◌≢◌, ℕ, ◌+◌, List, [], ◌∷◌, ◌++◌, length, Ok, Err, refl, sym, ap, ◌∙◌, subst, arith, append_assoc, append-nil}
+use Rattle.std.proofs.Common.{◌≡◌, ◌≢◌, ◌+◌, [], ◌∷◌, ◌++◌, length, Ok, Err, refl, sym, ap, ◌∙◌, subst, arith, append_assoc, append-nil}
 use Rattle.std.specs.Prelude.{All, Contains}
 use Rattle.std.proofs.lemmas.List.Elements.{All-weaker}
 use Rattle.std.proofs.lemmas.List.{length-append}
 use Rattle.sheet_step.specs.declared.dones.Done.{Done}
 use Rattle.call_form.specs.declared.Call.{Call}
 use Rattle.call_form.specs.declared.Outcome.{Outcome}
-use Rattle.session_core.specs.Served.{Told}
 use Rattle.turn_desk.specs.declared.objects.Entry.{Entry}
 use Rattle.turn_desk.specs.Histories.{requests_of, state_of}
 use Rattle.turn_desk.specs.Passes.{carried}
@@ -14,11 +13,10 @@ use Rattle.turn_desk.proofs.Lists.{state_more, requests_more, requests_one}
 use Rattle.service_core.specs.declared.requests.Request.{Request}
 use Rattle.service_core.specs.Outcomes.{outcome_of}
 use Rattle.service_core.specs.Places.{Way, place_of}
-use Rattle.service_core.specs.States.{State}
 use Rattle.service_desk.specs.Boards.{answer_of, state_after}
 use Rattle.service_desk.specs.Gains.{Gains, GainsInARow, GainsWhatItHears, state_at}
 use Rattle.service_desk.specs.Hearing.{asked_first, asked_by, heard_first, heard, dones_at}
-use Rattle.service_desk.specs.Seats.{Seat, IsSameSeat, Hears, HearsPlaced, Asked}
+use Rattle.service_desk.specs.Seats.{Seat, IsSameSeat, HearsPlaced, Asked}
 use Rattle.service_desk.proofs.Rows.{asked_more, dones_more, dones_none, dones_last, dones_count, heard_more}
 use Rattle.service_desk.proofs.Stepping.{last_done}
 

@@ -1,5 +1,5 @@
 -- What a seat gains of the history over calls in a row.
-use Rattle.std.specs.Prelude.{◌≡◌, ℕ, ◌+◌, List, length, ◌++◌}
+use Rattle.std.specs.Prelude.{◌≡◌, ◌+◌, List, length, ◌++◌}
 use Rattle.call_form.specs.declared.Call.{Call}
 use Rattle.call_form.specs.declared.Outcome.{Outcome}
 use Rattle.session_core.specs.Served.{Told}

@@ -1,5 +1,5 @@
 -- The outcomes of calls in a row, given what the requests among them came to.
-use Rattle.std.specs.Prelude.{◌≡◌, ℕ, eqb, List, [], ◌∷◌, if◌then◌else◌, Ok, Err}
+use Rattle.std.specs.Prelude.{ℕ, eqb, List, [], ◌∷◌, if◌then◌else◌, Ok, Err}
 use Rattle.sheet_step.specs.declared.dones.Done.{Done}
 use Rattle.sheet_form.specs.declared.sheets.Contents.{Contents}
 use Rattle.call_form.specs.declared.Call.{Call}

@@ -2,7 +2,7 @@ use Rattle.std.proofs.Common.{Ok, Err, refl, sym, subst, inr, ◌≡◌, ◌+◌
 use Rattle.turn_desk.specs.declared.faults.AskFault.TheVariants as fault
 use Rattle.service_core.specs.Places.{place_of}
 use Rattle.service_core.specs.Renders.{left_of}
-use Rattle.service_desk.specs.Seats.{Seat, Misses}
+use Rattle.service_desk.specs.Seats.{Seat}
 use Rattle.service_desk.proofs.Answering.{asked_of, missed_of, is_come_to, err_told, told_misses, told_hears, told_renders}
 use Rattle.service_desk.proofs.seats.Seated.ask.Goals as goal
 use Rattle.service_desk.proofs.seats.Seated.ask.Goals.{in-Ok, in-Err}
