@@ -115,13 +115,14 @@ fn are_served<'x>(
     alloc: Global,
     made: Result<Service, Memory>,
     rows: &'x [(&'x str, &'x str)],
+    stop: Stop,
 ) -> bool {
     let Ok(service) = made else {
         return false;
     };
     let mut right = true;
     for (input, output) in rows {
-        right = right && gives(alloc, &service, input, output, Stop::End);
+        right = right && gives(alloc, &service, input, output, stop);
     }
     drop(service);
     right
@@ -129,10 +130,17 @@ fn are_served<'x>(
 
 #[test]
 fn the_bare_service_is_served(rt: HostRuntime) {
-    assert!(rt; are_served(rt.alloc(), Service::bare(rt.alloc()), &BARE));
+    assert!(rt; are_served(rt.alloc(), Service::bare(rt.alloc()), &BARE, Stop::End));
 }
 
 #[test]
 fn upgrades_are_accepted_by_one_reply(rt: HostRuntime) {
-    assert!(rt; are_served(rt.alloc(), service_of(rt.alloc(), OPENED), &UPGRADES));
+    assert!(rt;
+        are_served(
+            rt.alloc(),
+            service_of(rt.alloc(), OPENED),
+            &UPGRADES,
+            Stop::Upgraded
+        )
+    );
 }
