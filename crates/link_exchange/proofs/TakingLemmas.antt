@@ -17,12 +17,41 @@ use Rattle.link_exchange.specs.declared.ends.AskEnd.TheVariants as ask
 use Rattle.link_exchange.specs.Limits.{most_of_link}
 use Rattle.link_exchange.specs.Gathering.{IsLast, IsSettled}
 use Rattle.link_exchange.specs.Passing.{AwaitsMore, IsFront, IsOwn, LinkFaults, PassEnds, PassesOn, Prints, TakesMore, TakesNoMore, WriteFaults}
-use Rattle.link_exchange.specs.Exchanges.{Taking, Took, TakesAll, IsFull, found_end, takes_on}
+use Rattle.link_exchange.specs.Exchanges.{AreNeeded, Taking, Took, TakesAll, IsFull, found_end, takes_on}
 use Rattle.link_exchange.specs.Stands.{Unread, Stand, stand}
 use Rattle.link_exchange.specs.Taken.{Taken, takes, takes_none, at_end, taken_on, marked, lines}
 use Rattle.link_exchange.proofs.TakenLemmas.{taken_on-settled}
 use Rattle.link_exchange.proofs.GatherLemmas.{takes-takes}
 use Rattle.link_exchange.proofs.SendLemmas.{Gains-none, Gains-trans}
+
+-- ---- each piece is needed
+
+snoc-some : (pieces : List (List ℕ)) (last : List ℕ) → [] ≡ pieces ++ last ∷ [] → ⊥
+snoc-some [] last is = cc is
+snoc-some (piece ∷ pieces) last is = cc is
+
+snoc-front : (one two : List (List ℕ)) (x y : List ℕ) → one ++ x ∷ [] ≡ two ++ y ∷ [] → one ≡ two
+snoc-front [] [] x y is = refl
+snoc-front [] (b ∷ two) x y is = absurd (snoc-some two y (let rest : [] ≡ two ++ y ∷ [] = cc is in rest))
+snoc-front (a ∷ one) [] x y is = absurd (snoc-some one x (let rest : [] ≡ one ++ x ∷ [] = cc is in rest))
+snoc-front (a ∷ one) (b ∷ two) x y is =
+    let first : a ≡ b = cc is in
+    let rest : one ++ x ∷ [] ≡ two ++ y ∷ [] = cc is in
+    let later : one ≡ two = snoc-front one two x y rest in
+    cc (first, later)
+
+pub none-needed : (asking : Asking) (inbox : Unread) → AreNeeded asking inbox []
+none-needed asking inbox earlier last is = absurd (snoc-some earlier last is)
+
+needed-more : (asking : Asking) (inbox : Unread) (fed : List (List ℕ)) (piece : List ℕ)
+    → AwaitsMore (taken_on asking.more (inbox.taken + length (concat fed)) 0 (inbox.held ++ concat fed)).end → AreNeeded asking inbox (fed ++ piece ∷ [])
+needed-more asking inbox fed piece awaits earlier last is =
+    subst (λ (e : List (List ℕ)). AwaitsMore (taken_on asking.more (inbox.taken + length (concat e)) 0 (inbox.held ++ concat e)).end)
+    (snoc-front fed earlier piece last is) awaits
+
+at_end-awaits : (full : Bool) (index : ℕ) → AwaitsMore (cond full ask.Long (ask.Ended index))
+at_end-awaits true index = tt
+at_end-awaits false index = tt
 
 -- ---- so far
 
@@ -32,6 +61,7 @@ Taking-none asking link now counted most = record {
   payloads = [];
   log = Gains-none now.log;
   consumed = Consumes-nil now.left;
+  needed = none-needed asking now.inbox;
   counted = omega arith;
   most = most;
   below = omega arith;
@@ -55,6 +85,7 @@ Taking-passed asking link index index' old mid written' inbox' taking passes = r
   payloads = taking.payloads ++ passes.payloads;
   log = taking.log;
   consumed = taking.consumed;
+  needed = taking.needed;
   counted = passes.same ∙ taking.counted;
   most = omega (arith, passes.same, taking.most);
   below = omega (arith, passes.same, taking.below, passes.counted);
@@ -66,36 +97,6 @@ Taking-passed asking link index index' old mid written' inbox' taking passes = r
 
 concat-more : (pieces : List (List ℕ)) (piece : List ℕ) → concat (pieces ++ piece ∷ []) ≡ concat pieces ++ piece
 concat-more pieces piece = concat-append pieces (piece ∷ []) ∙ ap (λ (l : List ℕ). concat pieces ++ l) (append-nil piece)
-
-pub Taking-took : (asking : Asking) (link index : ℕ) (old mid : Stand) (log' : Option (List Deed)) (left' : Option (List ℕ)) (inbox' : Unread) → Taking asking link index old mid
-    → TakesMore link (stand mid.log mid.left None mid.inbox) (stand log' left' None inbox') → Taking asking link index old (stand log' left' mid.written inbox')
-Taking-took asking link index old mid log' left' inbox' taking took =
-    let fed : List (List ℕ) = taking.fed ++ took.piece ∷ [] in
-    let joined : concat fed ≡ concat taking.fed ++ took.piece = concat-more taking.fed took.piece in
-    let more : inbox'.taken ≡ mid.inbox.taken + length took.piece = ap (λ (u : Unread). u.taken) took.inbox in
-    let held : inbox'.held ≡ mid.inbox.held ++ took.piece = ap (λ (u : Unread). u.held) took.inbox in
-    let long = length-append (concat taking.fed) took.piece in
-    let longer = length-append mid.inbox.held took.piece in
-    record {
-      fed = fed;
-      payloads = taking.payloads;
-      log = subst (Gains old.log log') (sym (map-append (λ (p : List ℕ). deed.Took link p) taking.fed (took.piece ∷ [])))
-          (Gains-trans old.log mid.log log' (takes_on link taking.fed) (deed.Took link took.piece ∷ []) taking.log took.log);
-      consumed = subst (Consumes old.left left') (sym joined) (Consumes-trans old.left mid.left left' (concat taking.fed) took.piece taking.consumed took.consumed);
-      counted = more ∙ ap (λ (n : ℕ). n + length took.piece) taking.counted ∙ omega (arith, long, ap length joined);
-      most = took.most;
-      below = omega (arith, more, ap length held, longer, taking.below);
-      wrote = taking.wrote;
-      whole = ap (λ (l : List ℕ). old.inbox.held ++ l) joined ∙ sym (append_assoc old.inbox.held (concat taking.fed) took.piece)
-          ∙ ap (λ (l : List ℕ). l ++ took.piece) taking.whole ∙ append_assoc (flat_map ended taking.payloads) mid.inbox.held took.piece
-          ∙ ap (λ (l : List ℕ). flat_map ended taking.payloads ++ l) (sym held);
-      on = λ total bytes. ap (taken_on asking.more total 0) (ap (λ (l : List ℕ). (old.inbox.held ++ l) ++ bytes) joined
-          ∙ ap (λ (l : List ℕ). l ++ bytes) (sym (append_assoc old.inbox.held (concat taking.fed) took.piece))
-          ∙ append_assoc (old.inbox.held ++ concat taking.fed) took.piece bytes)
-          ∙ taking.on total (took.piece ++ bytes)
-          ∙ ap (λ (l : List ℕ). takes taking.payloads (taken_on asking.more total index l)) (sym (append_assoc mid.inbox.held took.piece bytes)
-          ∙ ap (λ (l : List ℕ). l ++ bytes) (sym held));
-    }
 
 -- what is taken of all that was taken so far
 taking-now : (asking : Asking) (link index : ℕ) (old mid : Stand) (total : ℕ) → (taking : Taking asking link index old mid)
@@ -175,6 +176,7 @@ Taking-ended asking link index old mid written' inbox' end taking ends =
       printed = lines asking.mark taking.payloads ++ ends.printed;
       log = subst (Gains old.log mid.log) (sym (ap (λ (d : List Deed). takes_on link taking.fed ++ d) (own-found link end ends.own) ∙ append-nil (takes_on link taking.fed))) taking.log;
       consumed = taking.consumed;
+      needed = taking.needed;
       counted = ends.same ∙ taking.counted;
       most = omega (arith, ends.same, taking.most);
       wrote = Appends-trans old.written mid.written written' (lines asking.mark taking.payloads) ends.printed taking.wrote ends.wrote;
@@ -196,6 +198,40 @@ waits asking link index old mid total taking settled =
     ∙ ap (takes taking.payloads) (taken_on-settled asking.more total index mid.inbox.held settled)
     ∙ ap (λ (ps : List (List ℕ)). record { payloads = ps; end = at_end total index }) (append-nil taking.payloads)
 
+pub Taking-took : (asking : Asking) (link index : ℕ) (old mid : Stand) (log' : Option (List Deed)) (left' : Option (List ℕ)) (inbox' : Unread) → Taking asking link index old mid → IsSettled mid.inbox.held
+    → TakesMore link (stand mid.log mid.left None mid.inbox) (stand log' left' None inbox') → Taking asking link index old (stand log' left' mid.written inbox')
+Taking-took asking link index old mid log' left' inbox' taking settled took =
+    let total : ℕ = old.inbox.taken + length (concat taking.fed) in
+    let awaits : AwaitsMore (taken_on asking.more total 0 (old.inbox.held ++ concat taking.fed)).end =
+    subst (λ (t : Taken). AwaitsMore t.end) (sym (waits asking link index old mid total taking settled)) (at_end-awaits _ index) in
+    let fed : List (List ℕ) = taking.fed ++ took.piece ∷ [] in
+    let joined : concat fed ≡ concat taking.fed ++ took.piece = concat-more taking.fed took.piece in
+    let more : inbox'.taken ≡ mid.inbox.taken + length took.piece = ap (λ (u : Unread). u.taken) took.inbox in
+    let held : inbox'.held ≡ mid.inbox.held ++ took.piece = ap (λ (u : Unread). u.held) took.inbox in
+    let long = length-append (concat taking.fed) took.piece in
+    let longer = length-append mid.inbox.held took.piece in
+    record {
+      fed = fed;
+      payloads = taking.payloads;
+      log = subst (Gains old.log log') (sym (map-append (λ (p : List ℕ). deed.Took link p) taking.fed (took.piece ∷ [])))
+          (Gains-trans old.log mid.log log' (takes_on link taking.fed) (deed.Took link took.piece ∷ []) taking.log took.log);
+      consumed = subst (Consumes old.left left') (sym joined) (Consumes-trans old.left mid.left left' (concat taking.fed) took.piece taking.consumed took.consumed);
+      needed = needed-more asking old.inbox taking.fed took.piece awaits;
+      counted = more ∙ ap (λ (n : ℕ). n + length took.piece) taking.counted ∙ omega (arith, long, ap length joined);
+      most = took.most;
+      below = omega (arith, more, ap length held, longer, taking.below);
+      wrote = taking.wrote;
+      whole = ap (λ (l : List ℕ). old.inbox.held ++ l) joined ∙ sym (append_assoc old.inbox.held (concat taking.fed) took.piece)
+          ∙ ap (λ (l : List ℕ). l ++ took.piece) taking.whole ∙ append_assoc (flat_map ended taking.payloads) mid.inbox.held took.piece
+          ∙ ap (λ (l : List ℕ). flat_map ended taking.payloads ++ l) (sym held);
+      on = λ total bytes. ap (taken_on asking.more total 0) (ap (λ (l : List ℕ). (old.inbox.held ++ l) ++ bytes) joined
+          ∙ ap (λ (l : List ℕ). l ++ bytes) (sym (append_assoc old.inbox.held (concat taking.fed) took.piece))
+          ∙ append_assoc (old.inbox.held ++ concat taking.fed) took.piece bytes)
+          ∙ taking.on total (took.piece ++ bytes)
+          ∙ ap (λ (l : List ℕ). takes taking.payloads (taken_on asking.more total index l)) (sym (append_assoc mid.inbox.held took.piece bytes)
+          ∙ ap (λ (l : List ℕ). l ++ bytes) (sym held));
+    }
+
 at_end-open : (total index : ℕ) → total < most_of_link → at_end total index ≡ ask.Ended index
 at_end-open total index h = ap (λ (b : Bool). cond b ask.Long (ask.Ended index)) (ne_eqb total most_of_link (λ e. omega (arith, e, h)))
 
@@ -214,6 +250,7 @@ stops asking link index old mid log' left' inbox' end gained taking gains found 
       printed = lines asking.mark taking.payloads;
       log = subst (λ (d : List Deed). Gains old.log log' (takes_on link taking.fed ++ d)) (sym found) (Gains-trans old.log mid.log log' (takes_on link taking.fed) gained taking.log gains);
       consumed = subst (Consumes old.left left') (append-nil (concat taking.fed)) (Consumes-trans old.left mid.left left' (concat taking.fed) [] taking.consumed none);
+      needed = taking.needed;
       counted = kept ∙ taking.counted;
       most = omega (arith, kept, taking.most);
       wrote = taking.wrote;

@@ -25,6 +25,7 @@ use Rattle.link_exchange.specs.Passing.{Prints, SendsAll, SendsPieces, link_end}
 use Rattle.link_exchange.specs.Stands.{Unread, Stand, stand}
 use Rattle.link_exchange.specs.Taken.{Taken, takes, takes_none, judged, by_verdict, at_end, taken_of, taken_on, taken, lines}
 use Rattle.link_exchange.proofs.SendLemmas.{Gains-none, Gains-trans}
+use Rattle.link_exchange.proofs.TakingLemmas.{none-needed}
 use Rattle.link_exchange.proofs.TakenLemmas.{taken_on-ended, taken_on-too_long}
 
 -- ---- what stands behind the message that ended a call is not looked at
@@ -191,6 +192,7 @@ Exchanged-took asking text link old new log' left' end answered sent took =
       text_is = sent.whole;
       log = Gains-trans old.log log' new.log (sends_on link sent.sent) (takes_on link took.fed ++ found_end link end) sent.log took.log;
       silent = λ oneway. absurd (let no : ⊥ = cc (answered, oneway) in no);
+      needed = took.needed;
       counted = took.counted;
       wrote = took.wrote;
       comes = inl (record {
@@ -212,6 +214,7 @@ Exchanged-oneway asking text link old log' left' oneway sent =
       text_is = sent.whole;
       log = subst (Gains old.log log') (sym (append-nil (sends_on link sent.sent))) sent.log;
       silent = λ is. refl;
+      needed = none-needed asking old.inbox;
       counted = omega arith;
       wrote = Appends-nil old.written;
       comes = inl (record {
@@ -240,6 +243,7 @@ Exchanged-broken asking text link old log' left' fault end is sent =
       text_is = sent.2.whole;
       log = subst (Gains old.log log') (sym (ap (λ (d : List Deed). sends_on link sent.2.sent ++ d) (broken-found link fault) ∙ append-nil (sends_on link sent.2.sent))) sent.2.log;
       silent = λ is. refl;
+      needed = none-needed asking old.inbox;
       counted = omega arith;
       wrote = Appends-nil old.written;
       comes = inr (record { part = sent.1; none_taken = refl; none_passed = refl; why = is-broken fault });

@@ -12,7 +12,7 @@ use Rattle.link_exchange.specs.declared.ends.AskEnd.{AskEnd}
 use Rattle.link_exchange.specs.declared.ends.AskEnd.TheVariants.{Ended, Long, LinkFault, WriteFault, Memory}
 use Rattle.link_exchange.specs.Limits.{most_of_link}
 use Rattle.link_exchange.specs.Gathering.{IsLast}
-use Rattle.link_exchange.specs.Passing.{Prints}
+use Rattle.link_exchange.specs.Passing.{AwaitsMore, Prints}
 use Rattle.link_exchange.specs.Stands.{Unread, Stand}
 use Rattle.link_exchange.specs.Taken.{takes, taken, taken_on, lines}
 
@@ -39,12 +39,18 @@ abbrev pub IsFull : AskEnd → ℕ → Type 0
 IsFull Long total = total ≡ most_of_link
 IsFull _ total = ⊤
 
+-- each piece was needed: what was held, and taken before the last piece, awaits more
+abbrev pub AreNeeded : Asking → Unread → List (List ℕ) → Type 0
+AreNeeded asking inbox fed = (earlier : List (List ℕ)) (last : List ℕ) → fed ≡ earlier ++ last ∷ []
+    → AwaitsMore (taken_on asking.more (inbox.taken + length (concat earlier)) 0 (inbox.held ++ concat earlier)).end
+
 -- so far these pieces were taken from the link, and these payloads passed on; the message of this index comes next
 pub record Taking (asking : Asking) (link index : ℕ) (old new : Stand) : Type 0 where
   pub fed : List (List ℕ)
   pub payloads : List (List ℕ)
   pub log : Gains old.log new.log (takes_on link fed)
   pub consumed : Consumes old.left new.left (concat fed)
+  pub needed : AreNeeded asking old.inbox fed
   pub counted : new.inbox.taken ≡ old.inbox.taken + length (concat fed)
   pub most : new.inbox.taken ≤ most_of_link
   pub below : index + length new.inbox.held ≤ new.inbox.taken
@@ -60,6 +66,7 @@ pub record Took (asking : Asking) (link : ℕ) (old new : Stand) (end : AskEnd) 
   pub printed : List ℕ
   pub log : Gains old.log new.log (takes_on link fed ++ found_end link end)
   pub consumed : Consumes old.left new.left (concat fed)
+  pub needed : AreNeeded asking old.inbox fed
   pub counted : new.inbox.taken ≡ old.inbox.taken + length (concat fed)
   pub most : new.inbox.taken ≤ most_of_link
   pub wrote : Appends old.written new.written printed
@@ -88,8 +95,8 @@ pub record BrokeOff (unsent : List ℕ) (fed : List (List ℕ)) (printed : List 
   pub none_passed : printed ≡ []
   pub why : IsBroken end
 
--- one call was made on an open link: its text was sent once, these pieces were taken from the link, and nothing else was
--- done; a `oneway` call takes nothing. What was passed on and the end are those of what is held and taken, as `taken` has
+-- one call was made on an open link: its text was sent once, these pieces were taken from the link, as many as were needed,
+-- and nothing else was done; a `oneway` call takes nothing. What was passed on and the end are those of what is held and taken, as `taken` has
 -- them, unless a part of the text could not be sent
 pub record Exchanged (asking : Asking) (text : List ℕ) (link : ℕ) (old new : Stand) (end : AskEnd) : Type 0 where
   pub sent : List (List ℕ)
@@ -99,6 +106,7 @@ pub record Exchanged (asking : Asking) (text : List ℕ) (link : ℕ) (old new :
   pub text_is : text ≡ concat sent ++ unsent
   pub log : Gains old.log new.log (sends_on link sent ++ (takes_on link fed ++ found_end link end))
   pub silent : asking.oneway ≡ true → fed ≡ []
+  pub needed : AreNeeded asking old.inbox fed
   pub counted : new.inbox.taken ≡ old.inbox.taken + length (concat fed)
   pub wrote : Appends old.written new.written printed
   pub comes : CameTo asking unsent (old.inbox.held ++ concat fed) new.inbox.taken printed new.inbox.held end

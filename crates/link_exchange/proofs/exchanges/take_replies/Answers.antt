@@ -33,7 +33,7 @@ takes-preserved g c =
     let took = c.in_default-take_more.ensures in
     record {
       taking = Taking-took c.args.asking c.args.link.0 _ _ _ _ _ _
-          (Taking-passed c.args.asking c.args.link.0 _ _ _ _ _ _ earlier.taking passed) took.took;
+          (Taking-passed c.args.asking c.args.link.0 _ _ _ _ _ _ earlier.taking passed) passed.settled took.took;
       link_faults = took.faults ∙ earlier.link_faults;
       write_faults = c.in_default.ensures.faults ∙ earlier.write_faults;
       world = c.take_more.ensures.world ∙ earlier.world;
