@@ -14,9 +14,9 @@ use Rattle.link_exchange.specs.declared.ends.AskEnd.TheVariants as end
 use Rattle.link_exchange.specs.declared.gathering.Step.{Step}
 use Rattle.link_exchange.specs.declared.gathering.Step.TheVariants.{Passed, Ends, NeedMore}
 use Rattle.link_exchange.specs.declared.verdicts.Verdict.{Verdict}
-use Rattle.link_exchange.specs.declared.verdicts.Verdict.TheVariants.{Goes, Last, Astray}
+use Rattle.link_exchange.specs.declared.verdicts.Verdict.TheVariants.{Last, Astray}
 use Rattle.link_exchange.specs.Limits.{most_of_reply}
-use Rattle.link_exchange.specs.Gathering.{Judges, IsLast, IsAstray, EndsWith, Gathers, GatherEnds, LineEnds, PutsLine, Steps, WaitsOn, IsSettled}
+use Rattle.link_exchange.specs.Gathering.{Judges, IsLast, IsAstray, EndsWith, Gathers, GatherEnds, LineEnds, PutsLine, Steps, WaitsOn}
 use Rattle.link_exchange.specs.Taken.{Taken, takes, judged, by_verdict, taken_on, marked, lines}
 use Rattle.link_exchange.proofs.TakenLemmas.{taken_on-ended, taken_on-too_long}
 

@@ -1,18 +1,16 @@
 -- What is passed on of the bytes held.
-use Rattle.std.proofs.Common.{◌≡◌, ◌⊎◌, ℕ, List, [], ◌∷◌, ◌++◌, Option, None, Some, IfNone, IfSome, MatchOption, refl, sym, ◌∙◌, ap, subst, append_assoc, inl, inr}
+use Rattle.std.proofs.Common.{◌≡◌, ℕ, List, [], ◌++◌, Option, None, Some, IfNone, IfSome, MatchOption, refl, sym, ◌∙◌, ap, subst, append_assoc, inl, inr}
 use Rattle.std.proofs.lemmas.List.{append-nil}
 use Rattle.std.proofs.lemmas.Grind.{flat_map-append}
 use Rattle.std.specs.Io.KnownBytes.{Appends}
 use Rattle.std.specs.List.{flat_map}
-use Rattle.link_port.specs.Faults.{Rises}
 use Rattle.message_frame.specs.Pieces.{ended}
 use Rattle.link_exchange.specs.declared.asked.Asking.{Asking}
 use Rattle.link_exchange.specs.declared.ends.AskEnd.{AskEnd}
 use Rattle.link_exchange.specs.declared.ends.AskEnd.TheVariants as ask
-use Rattle.link_exchange.specs.Gathering.{IsLast, EndsWith, Gathers, GatherEnds, IsSettled}
-use Rattle.link_exchange.specs.Passing.{IsFront, IsOwn, AwaitsMore, Prints, WriteFaults, PassEnds, PutsLines, LinesPut, LinesBroke}
-use Rattle.link_exchange.specs.Stands.{Unread}
-use Rattle.link_exchange.specs.Taken.{Taken, takes, taken_on, marked, lines}
+use Rattle.link_exchange.specs.Gathering.{IsLast, EndsWith, Gathers, GatherEnds}
+use Rattle.link_exchange.specs.Passing.{IsFront, IsOwn, Prints, WriteFaults, PassEnds, PutsLines, LinesBroke}
+use Rattle.link_exchange.specs.Taken.{Taken, taken_on, marked, lines}
 
 prints-ends : (mark : ℕ) (end : AskEnd) (payloads : List (List ℕ)) (there : Taken) → EndsWith end payloads there → Prints mark end (lines mark payloads) there
 prints-ends mark (ask.Done n) payloads there ends = (ap (λ (t : Taken). lines mark t.payloads) (sym ends), ap (λ (t : Taken). t.end) (sym ends))

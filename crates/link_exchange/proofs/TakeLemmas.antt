@@ -1,18 +1,15 @@
 -- What a take of the link gives.
-use Rattle.std.proofs.Common.{◌≡◌, ◌≢◌, ◌↔◌, ℕ, zero, suc, ◌+◌, ◌-◌, ◌<◌, ◌≤◌, min, List, [], ◌∷◌, ◌++◌, length, take, drop, Option, None, Some, Result, Ok, Err, IfSome, refl, sym, ◌∙◌, ap, subst, arith, length-append}
+use Rattle.std.proofs.Common.{◌≡◌, ◌≢◌, ◌↔◌, ℕ, zero, suc, ◌+◌, ◌-◌, ◌≤◌, List, [], ◌∷◌, ◌++◌, length, take, Option, None, Some, IfSome, refl, sym, ◌∙◌, ap, subst, arith}
 use Rattle.std.proofs.lemmas.List.{length-take, take_all}
-use Rattle.std.proofs.KnownBytes.{Consumes-nil}
 use Rattle.std.specs.Io.KnownBytes.{Consumes, IsAtEnd}
-use Rattle.link_port.specs.Flow.{TakesFront, EndsWhereNothingIsLeft}
 use Rattle.link_reach.specs.declared.deeds.Deed.{Deed}
 use Rattle.link_reach.specs.declared.deeds.Deed.TheVariants as deed
-use Rattle.link_reach.specs.declared.deeds.DialFault.{DialFault}
 use Rattle.link_reach.specs.Deeds.{Gains, taken}
 use Rattle.message_frame.specs.Held.{Held}
 use Rattle.message_frame.specs.Steps.{Feeds}
 use Rattle.link_exchange.specs.Limits.{most_of_reply, most_of_take, most_of_link}
-use Rattle.link_exchange.specs.Passing.{TakesMore, TakesNoMore, TookNone}
-use Rattle.link_exchange.specs.Stands.{Unread, Stand, stand}
+use Rattle.link_exchange.specs.Passing.{TakesMore, TakesNoMore}
+use Rattle.link_exchange.specs.Stands.{Unread, stand}
 use Rattle.link_exchange.specs.declared.ends.AskEnd.TheVariants as ask
 
 at-end : (left : Option (List ℕ)) (n : ℕ) → n ≡ 0 → IfSome left (λ bytes. (n ≡ 0) ↔ (bytes ≡ [])) → IsAtEnd left

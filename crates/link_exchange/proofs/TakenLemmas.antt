@@ -1,18 +1,14 @@
 -- What is taken, message by message.
-use Rattle.std.proofs.Common.{◌≡◌, ℕ, ◌+◌, ◌<◌, ◌≤◌, Bool, true, false, cond, nat_lt, List, [], ◌∷◌, ◌++◌, length, refl, sym, ◌∙◌, ap, append_assoc, arith, length-append}
+use Rattle.std.proofs.Common.{◌≡◌, ℕ, ◌+◌, ◌<◌, ◌≤◌, Bool, true, false, cond, nat_lt, List, [], ◌∷◌, ◌++◌, length, ◌∙◌, ap, append_assoc, arith, length-append}
 use Rattle.std.proofs.lemmas.Bool.{lt-ltb}
-use Rattle.std.proofs.lemmas.List.{append-nil}
-use Rattle.std.specs.List.{flat_map}
 use Rattle.caller_form.specs.ReplyOf.{reply_of}
 use Rattle.message_frame.specs.Pieces.{NoNul, ended, Pieces, pieces}
 use Rattle.message_frame.proofs.PieceLemmas.{pieces-ended, pieces-led_all, pieces-no_nul, led_all}
-use Rattle.link_exchange.specs.declared.ends.AskEnd.{AskEnd}
 use Rattle.link_exchange.specs.declared.ends.AskEnd.TheVariants.{TooLong}
-use Rattle.link_exchange.specs.declared.verdicts.Verdict.{Verdict}
 use Rattle.link_exchange.specs.declared.verdicts.Verdict.TheVariants.{Astray}
 use Rattle.link_exchange.specs.Limits.{most_of_reply}
 use Rattle.link_exchange.specs.Gathering.{IsSettled}
-use Rattle.link_exchange.specs.Taken.{Taken, takes, takes_none, judged, by_reading, by_verdict, at_end, taken_of, taken_on}
+use Rattle.link_exchange.specs.Taken.{takes_none, judged, by_reading, by_verdict, at_end, taken_of, taken_on}
 
 longer : (limit n : ℕ) → limit < n → nat_lt limit n ≡ true
 longer limit n h = lt-ltb limit n h

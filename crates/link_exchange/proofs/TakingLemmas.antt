@@ -1,5 +1,5 @@
 -- Replies are taken, take by take.
-use Rattle.std.proofs.Common.{◌≡◌, ◌+◌, ◌-◌, ◌<◌, ◌≤◌, ℕ, Bool, true, false, cond, ◌==◌, List, [], ◌∷◌, ◌++◌, length, map, take, Option, None, Some, IfSome, refl, sym, ◌∙◌, ap, subst, append_assoc, arith, length-append, eq-eqb}
+use Rattle.std.proofs.Common.{◌≡◌, ◌+◌, ◌<◌, ◌≤◌, ℕ, Bool, true, false, cond, List, [], ◌∷◌, ◌++◌, length, Option, None, Some, IfSome, refl, sym, ◌∙◌, ap, subst, append_assoc, arith, length-append, eq-eqb}
 use Rattle.std.proofs.KnownBytes.{Appends-trans, Appends-nil, Consumes-trans, Consumes-nil}
 use Rattle.std.proofs.lemmas.Bool.{ne_eqb}
 use Rattle.std.proofs.lemmas.Grind.{flat_map-append}
@@ -16,10 +16,10 @@ use Rattle.link_exchange.specs.declared.ends.AskEnd.{AskEnd}
 use Rattle.link_exchange.specs.declared.ends.AskEnd.TheVariants as ask
 use Rattle.link_exchange.specs.Limits.{most_of_link}
 use Rattle.link_exchange.specs.Gathering.{IsLast, IsSettled}
-use Rattle.link_exchange.specs.Passing.{AwaitsMore, IsFront, IsOwn, LinkFaults, PassEnds, PassesOn, Prints, TakesMore, TakesNoMore, WriteFaults}
+use Rattle.link_exchange.specs.Passing.{AwaitsMore, IsOwn, LinkFaults, PassEnds, PassesOn, Prints, TakesMore, TakesNoMore, WriteFaults}
 use Rattle.link_exchange.specs.Exchanges.{AreNeeded, Taking, Took, TakesAll, IsFull, found_end, takes_on}
 use Rattle.link_exchange.specs.Stands.{Unread, Stand, stand}
-use Rattle.link_exchange.specs.Taken.{Taken, takes, takes_none, at_end, taken_on, marked, lines}
+use Rattle.link_exchange.specs.Taken.{Taken, takes, at_end, taken_on, marked, lines}
 use Rattle.link_exchange.proofs.TakenLemmas.{taken_on-settled}
 use Rattle.link_exchange.proofs.GatherLemmas.{takes-takes}
 use Rattle.link_exchange.proofs.SendLemmas.{Gains-none, Gains-trans}

@@ -1,5 +1,5 @@
 -- What a call comes to, of the bytes that were taken and of all that is left on the link.
-use Rattle.std.proofs.Common.{◌≡◌, ◌+◌, ◌-◌, ◌<◌, ◌≤◌, ℕ, zero, suc, Bool, true, false, cond, nat_lt, List, [], ◌∷◌, ◌++◌, length, take, Option, None, Some, Result, Ok, Err, refl, sym, ◌∙◌, ap, subst, append_assoc, arith, length-append, inl, inr}
+use Rattle.std.proofs.Common.{◌≡◌, ◌+◌, ◌-◌, ◌≤◌, ℕ, zero, suc, Bool, true, false, cond, nat_lt, List, [], ◌∷◌, ◌++◌, length, take, Option, None, Some, Err, refl, sym, ◌∙◌, ap, subst, append_assoc, arith, inl, inr}
 use Rattle.std.proofs.lemmas.Bool.{ltb-true}
 use Rattle.std.proofs.lemmas.List.{append-nil, take_all}
 use Rattle.std.proofs.KnownBytes.{Appends-nil}
@@ -18,13 +18,12 @@ use Rattle.link_exchange.specs.declared.ends.AskEnd.{AskEnd}
 use Rattle.link_exchange.specs.declared.ends.AskEnd.TheVariants as ask
 use Rattle.link_exchange.specs.declared.verdicts.Verdict.{Verdict}
 use Rattle.link_exchange.specs.declared.verdicts.Verdict.TheVariants.{Goes, Last, Astray}
-use Rattle.link_exchange.specs.Exchanges.{Took, Exchanged, ExchangedIn, CameTo, BrokeOff, IsBroken, IsTold, TakesLeft, TakesAll, IsFull, within_most, found_end, sends_on, takes_on}
-use Rattle.link_exchange.specs.Gathering.{IsLast}
+use Rattle.link_exchange.specs.Exchanges.{Took, Exchanged, ExchangedIn, IsBroken, IsTold, TakesLeft, TakesAll, IsFull, within_most, found_end, sends_on, takes_on}
 use Rattle.link_exchange.specs.Limits.{most_of_reply, most_of_link}
 use Rattle.link_exchange.specs.Passing.{Prints, SendsAll, SendsPieces, link_end}
 use Rattle.link_exchange.specs.Stands.{Unread, Stand, stand}
 use Rattle.link_exchange.specs.Taken.{Taken, takes, takes_none, judged, by_verdict, at_end, taken_of, taken_on, taken, lines}
-use Rattle.link_exchange.proofs.SendLemmas.{Gains-none, Gains-trans}
+use Rattle.link_exchange.proofs.SendLemmas.{Gains-trans}
 use Rattle.link_exchange.proofs.TakingLemmas.{none-needed}
 use Rattle.link_exchange.proofs.TakenLemmas.{taken_on-ended, taken_on-too_long}
 
