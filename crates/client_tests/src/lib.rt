@@ -1,0 +1,5 @@
+//! Calls of a client over links in memory, each public function once.
+#![tactic(auto)]
+
+#[cfg(test)]
+mod calls;
