@@ -1,0 +1,5 @@
+//! What a resolver tells of addresses, over links in memory.
+#![tactic(auto)]
+
+#[cfg(test)]
+mod finding;
