@@ -7,6 +7,7 @@ use Rattle.link_reach.specs.declared.deeds.DialFault.{DialFault}
 use Rattle.link_reach.specs.declared.deeds.DialFault.TheVariants as dial
 use Rattle.link_reach.specs.declared.deeds.LinkState.{LinkState}
 use Rattle.link_reach.specs.declared.deeds.LinkState.TheVariants.{Closed}
+use Rattle.link_exchange.specs.Asked.{Asked, Reading, any_reads, asked}
 use Rattle.link_exchange.specs.declared.asked.Asking.{Asking}
 use Rattle.link_exchange.specs.declared.ends.AskEnd.{AskEnd}
 use Rattle.link_exchange.specs.declared.ends.AskEnd.TheVariants.{LinkFault, Memory}
@@ -14,8 +15,16 @@ use Rattle.link_exchange.specs.Exchanges.{Exchanged}
 use Rattle.link_exchange.specs.Stands.{Unread, Stand, stand}
 
 -- each reply is passed on as a line
-abbrev pub asking_of : Call → Asking
-asking_of call = record { oneway = call.oneway; more = call.more; mark = 10 }
+abbrev pub lines_of : Call → Asking
+lines_of call = record { oneway = call.oneway; more = call.more; mark = 10 }
+
+-- the replies of a call, each of which reads so
+abbrev pub asked_of : Reading → Call → Asked
+asked_of unread call = asked (lines_of call) unread
+
+-- all replies of a call
+abbrev pub asking_of : Call → Asked
+asking_of call = asked_of any_reads call
 
 -- nothing was taken from a link yet
 abbrev pub unread : Unread
@@ -53,13 +62,13 @@ DialsInVain dial before after end =
     (end ≡ LinkFault) × (after.log ≡ behind dial before.log) × HasNoLink before after
 
 -- a call of this text was made on this link, from how it stood: what was done, what was passed on, and how it ended
-pub record CalledOn (asking : Asking) (text : List ℕ) (link : ℕ) (stood : Stand) (log : Option (List Deed)) (written : Option (List ℕ)) (end : AskEnd) : Type 0 where
+pub record CalledOn (asking : Asked) (text : List ℕ) (link : ℕ) (stood : Stand) (log : Option (List Deed)) (written : Option (List ℕ)) (end : AskEnd) : Type 0 where
   pub left : Option (List ℕ)
   pub inbox : Unread
   pub exchanged : Exchanged asking text link stood (stand log left written inbox) end
 
 -- a link was dialled once, the call was made on it, and nothing else was done; the link was closed
-pub record CallsOn (dial : Deed) (text : List ℕ) (asking : Asking) (before after : Side) (end : AskEnd) : Type 0 where
+pub record CallsOn (dial : Deed) (text : List ℕ) (asking : Asked) (before after : Side) (end : AskEnd) : Type 0 where
   pub left : Option (List ℕ)
   pub called : CalledOn asking text before.opened (stand (behind dial before.log) left before.written unread) after.log after.written end
   pub opened : after.opened ≡ before.opened + 1
@@ -67,7 +76,7 @@ pub record CallsOn (dial : Deed) (text : List ℕ) (asking : Asking) (before aft
   pub others : OthersAsBefore before.opened before.state after.state
 
 -- a call of this text over a link of its own, which is dialled so
-abbrev pub CallsOver : Deed → List ℕ → Asking → Side → Side → AskEnd → Type 0
+abbrev pub CallsOver : Deed → List ℕ → Asked → Side → Side → AskEnd → Type 0
 CallsOver dial text asking before after end =
     DoesNothing before after end
     ⊎ (DialsInVain dial before after end ⊎ CallsOn dial text asking before after end)

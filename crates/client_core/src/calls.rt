@@ -8,15 +8,16 @@ ghost use Rattle.link_reach.specs.declared.deeds.Deed.TheVariants as deed;
 ghost use Rattle.link_reach.specs.declared.deeds.LinkState.TheVariants.{Open, Closed};
 ghost use Rattle.call_form.specs.CallText.{IsSendable};
 ghost use Rattle.caller_form.specs.CallBytes.{call_bytes};
+ghost use Rattle.link_exchange.specs.Asked.{asked};
 ghost use Rattle.link_exchange.specs.Exchanges.{ExchangedIn, IsTold};
 ghost use Rattle.link_exchange.specs.Passing.{LinkFaults, WriteFaults};
 ghost use Rattle.link_exchange.specs.Stands.{stand};
-ghost use Rattle.client_core.specs.Calls.{CallsOver, CalledOn, asking_of, unread, end_of};
+ghost use Rattle.client_core.specs.Calls.{CallsOver, CalledOn, asking_of, lines_of, unread, end_of};
 
 use call_form::Call;
 use caller_form::call_text;
 use link_doors::Address;
-use link_exchange::{AskEnd, Asking, Inbox, exchange};
+use link_exchange::{AskEnd, Asking, Inbox, Screen, Unscreened, exchange};
 use link_port::{List, Memory, Sink};
 use link_reach::{DialFault, LinkNo, Reach};
 use std::alloc::Global;
@@ -62,13 +63,14 @@ pub fn call_direct<R: Reach, K: Sink>(
     match ready(alloc, call) {
         Ok((text, mut inbox)) => match reach.dial(alloc, address) {
             Ok(link) => {
-                let asking = asking(call);
+                let asking = lines_of(call);
                 call_on(
                     alloc,
                     reach,
                     link,
                     text.as_slice(),
                     asking,
+                    &Unscreened,
                     &mut inbox,
                     sink,
                 )
@@ -119,13 +121,14 @@ pub fn call_child<R: Reach, K: Sink>(
     match ready(alloc, call) {
         Ok((text, mut inbox)) => match reach.dial_child(alloc, program, resolver) {
             Ok(link) => {
-                let asking = asking(call);
+                let asking = lines_of(call);
                 call_on(
                     alloc,
                     reach,
                     link,
                     text.as_slice(),
                     asking,
+                    &Unscreened,
                     &mut inbox,
                     sink,
                 )
@@ -139,8 +142,8 @@ pub fn call_child<R: Reach, K: Sink>(
     }
 }
 
-// The text of a call, and the inbox of a link from which nothing was taken yet.
-fn ready(alloc: Global, call: &Call) -> Result<(List<u8>, Inbox), Memory>
+/// The text of a call, and the inbox of a link from which nothing was taken yet.
+pub fn ready(alloc: Global, call: &Call) -> Result<(List<u8>, Inbox), Memory>
     requires { IsSendable call.now }
     ensures text { IfOk result (λ both. both.0 ≡ call_bytes call.now) }
     ensures inbox { IfOk result (λ both. both.1 ≡ unread) }
@@ -155,9 +158,9 @@ fn ready(alloc: Global, call: &Call) -> Result<(List<u8>, Inbox), Memory>
     }
 }
 
-// What replies the call asks for, each passed on as a line.
-fn asking(call: &Call) -> Asking
-    ensures { result ≡ asking_of call.now }
+/// What replies a call asks for, each passed on as a line.
+pub fn lines_of(call: &Call) -> Asking
+    ensures { result ≡ lines_of call.now }
 {
     Asking {
         oneway: call.oneway,
@@ -166,22 +169,24 @@ fn asking(call: &Call) -> Asking
     }
 }
 
-// Makes a call of this text on an open link, and closes the link.
-fn call_on<R: Reach, K: Sink>(
+/// Makes a call of this text on an open link, and closes the link, however the call ends. The payload of each
+/// reply that reads by the screen is passed on as it came.
+pub fn call_on<R: Reach, S: Screen, K: Sink>(
     alloc: Global,
     reach: &mut R,
     link: LinkNo,
     text: &[u8],
     asking: Asking,
+    screen: &S,
     inbox: &mut Inbox,
     sink: &mut K,
 ) -> AskEnd
     requires open { R.state reach.old link.0 ≡ Open }
     requires unfinished { K.finished sink.old ≡ false }
-    ensures called { CalledOn asking text.now link.0
+    ensures called { CalledOn (asked asking (S.unread screen.now)) text.now link.0
         (stand (R.log reach.old) (left_of (R.leads reach.old link.0)) (K.written sink.old) inbox.old)
         (R.log reach.new) (K.written sink.new) result }
-    ensures told { IsTold result → ExchangedIn R.says asking text.now inbox.old
+    ensures told { IsTold result → ExchangedIn R.says (asked asking (S.unread screen.now)) text.now inbox.old
         (spot (R.world reach.old) (R.leads reach.old link.0)) (R.world reach.new)
         (K.written sink.old) (K.written sink.new) result }
     ensures closed { Becomes link.0 Closed (R.state reach.old) (R.state reach.new) }
@@ -193,13 +198,13 @@ fn call_on<R: Reach, K: Sink>(
         (K.read_faults sink.old) (K.read_faults sink.new) }
     ensures unfinished { K.finished sink.new ≡ false }
 {
-    let end = exchange(alloc, reach, link, text, asking, inbox, sink);
+    let end = exchange(alloc, reach, link, text, asking, screen, inbox, sink);
     reach.close(link);
     end
 }
 
-// How a call ends that has no link.
-fn end_of(fault: DialFault) -> AskEnd
+/// How a call ends that has no link.
+pub fn end_of(fault: DialFault) -> AskEnd
     ensures { result ≡ end_of fault }
 {
     match fault {

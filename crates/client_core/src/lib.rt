@@ -3,4 +3,4 @@
 
 mod calls;
 
-pub use calls::{call_child, call_direct};
+pub use calls::{call_child, call_direct, call_on, end_of, lines_of, ready};

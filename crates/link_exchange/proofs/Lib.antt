@@ -5,3 +5,4 @@ pub mod TakeLemmas
 pub mod SendLemmas
 pub mod TakingLemmas
 pub mod TookLemmas
+pub mod OneReply

@@ -5,7 +5,7 @@ use Rattle.std.proofs.lemmas.Grind.{flat_map-append}
 use Rattle.std.specs.Io.KnownBytes.{Appends}
 use Rattle.std.specs.List.{flat_map}
 use Rattle.message_frame.specs.Pieces.{ended}
-use Rattle.link_exchange.specs.declared.asked.Asking.{Asking}
+use Rattle.link_exchange.specs.Asked.{Asked}
 use Rattle.link_exchange.specs.declared.ends.AskEnd.{AskEnd}
 use Rattle.link_exchange.specs.declared.ends.AskEnd.TheVariants as ask
 use Rattle.link_exchange.specs.Gathering.{IsLast, EndsWith, Gathers, GatherEnds}
@@ -19,6 +19,7 @@ prints-ends mark (ask.NotReply i fault) payloads there ends = (ap (λ (t : Taken
 prints-ends mark (ask.Continues i) payloads there ends = (ap (λ (t : Taken). lines mark t.payloads) (sym ends), ap (λ (t : Taken). t.end) (sym ends))
 prints-ends mark (ask.Ended i) payloads there ends = absurd ends
 prints-ends mark (ask.TooLong i) payloads there ends = (ap (λ (t : Taken). lines mark t.payloads) (sym ends), ap (λ (t : Taken). t.end) (sym ends))
+prints-ends mark (ask.IllTyped i name) payloads there ends = (ap (λ (t : Taken). lines mark t.payloads) (sym ends), ap (λ (t : Taken). t.end) (sym ends))
 prints-ends mark ask.Long payloads there ends = absurd ends
 prints-ends mark ask.LinkFault payloads there ends = absurd ends
 prints-ends mark ask.WriteFault payloads there ends = absurd ends
@@ -39,6 +40,7 @@ leads-ends (ask.NotReply i fault) payloads there ends = all-lead payloads _ ther
 leads-ends (ask.Continues i) payloads there ends = all-lead payloads _ there ends
 leads-ends (ask.Ended i) payloads there ends = absurd ends
 leads-ends (ask.TooLong i) payloads there ends = all-lead payloads _ there ends
+leads-ends (ask.IllTyped i name) payloads there ends = all-lead payloads _ there ends
 leads-ends ask.Long payloads there ends = absurd ends
 leads-ends ask.LinkFault payloads there ends = absurd ends
 leads-ends ask.WriteFault payloads there ends = absurd ends
@@ -51,6 +53,7 @@ last-ends (ask.NotReply i fault) payloads there last ends = absurd last
 last-ends (ask.Continues i) payloads there last ends = absurd last
 last-ends (ask.Ended i) payloads there last ends = absurd last
 last-ends (ask.TooLong i) payloads there last ends = absurd last
+last-ends (ask.IllTyped i name) payloads there last ends = absurd last
 last-ends ask.Long payloads there last ends = absurd last
 last-ends ask.LinkFault payloads there last ends = absurd last
 last-ends ask.WriteFault payloads there last ends = absurd last
@@ -64,7 +67,7 @@ front-leads mark payloads there front leads part = (
       ∙ append_assoc front part.0 (lines mark leads.0),
 )
 
-PassEnds-put : (asking : Asking) (index total : ℕ) (held held' before now all : List ℕ) (written written' : Option (List ℕ)) (end : AskEnd) → before ≡ [] → all ≡ now
+PassEnds-put : (asking : Asked) (index total : ℕ) (held held' before now all : List ℕ) (written written' : Option (List ℕ)) (end : AskEnd) → before ≡ [] → all ≡ now
     → IsOwn end → GatherEnds asking index held held' before now end → Appends written written' all
     → PassEnds asking index (record { held = held; taken = total }) (record { held = held'; taken = total }) written written' end
 PassEnds-put asking index total held held' before now all written written' end none is own gathered wrote = record {
@@ -76,9 +79,9 @@ PassEnds-put asking index total held held' before now all written written' end n
   own = own;
 }
 
-PassEnds-broke : (asking : Asking) (index total : ℕ) (held held' before now all : List ℕ) (payloads : List (List ℕ)) (written written' : Option (List ℕ)) (faults faults' : ℕ)
+PassEnds-broke : (asking : Asked) (index total : ℕ) (held held' before now all : List ℕ) (payloads : List (List ℕ)) (written written' : Option (List ℕ)) (faults faults' : ℕ)
     (result : Option AskEnd) → before ≡ [] → all ≡ now → now ≡ before ++ lines asking.mark payloads
-    → ((t : ℕ) (bytes : List ℕ) → Leads payloads (taken_on asking.more t index (held ++ bytes))) → LinesBroke all written written' faults faults' result
+    → ((t : ℕ) (bytes : List ℕ) → Leads payloads (taken_on asking t index (held ++ bytes))) → LinesBroke all written written' faults faults' result
     → PassEnds asking index (record { held = held; taken = total }) (record { held = held'; taken = total }) written written' ask.WriteFault
 PassEnds-broke asking index total held held' before now all payloads written written' faults faults' result none is added leads broke =
     let same : all ≡ lines asking.mark payloads = is ∙ added ∙ ap (λ (l : List ℕ). l ++ lines asking.mark payloads) none in
@@ -86,7 +89,7 @@ PassEnds-broke asking index total held held' before now all payloads written wri
       printed = broke.front;
       wrote = broke.wrote;
       same = refl;
-      prints = λ t bytes. front-leads asking.mark payloads (taken_on asking.more t index (held ++ bytes)) broke.front (leads t bytes) (subst (IsFront broke.front) same broke.part);
+      prints = λ t bytes. front-leads asking.mark payloads (taken_on asking t index (held ++ bytes)) broke.front (leads t bytes) (subst (IsFront broke.front) same broke.part);
       behind = λ last. absurd last;
       own = tt;
     }
@@ -98,6 +101,7 @@ own-ends (ask.NotReply i fault) payloads there ends = tt
 own-ends (ask.Continues i) payloads there ends = tt
 own-ends (ask.Ended i) payloads there ends = absurd ends
 own-ends (ask.TooLong i) payloads there ends = tt
+own-ends (ask.IllTyped i name) payloads there ends = tt
 own-ends ask.Long payloads there ends = absurd ends
 own-ends ask.LinkFault payloads there ends = absurd ends
 own-ends ask.WriteFault payloads there ends = absurd ends
@@ -110,13 +114,14 @@ sound-ends (ask.NotReply i fault) payloads there faults faults' ends sound = sou
 sound-ends (ask.Continues i) payloads there faults faults' ends sound = sound
 sound-ends (ask.Ended i) payloads there faults faults' ends sound = absurd ends
 sound-ends (ask.TooLong i) payloads there faults faults' ends sound = sound
+sound-ends (ask.IllTyped i name) payloads there faults faults' ends sound = sound
 sound-ends ask.Long payloads there faults faults' ends sound = absurd ends
 sound-ends ask.LinkFault payloads there faults faults' ends sound = absurd ends
 sound-ends ask.WriteFault payloads there faults faults' ends sound = absurd ends
 sound-ends ask.Memory payloads there faults faults' ends sound = sound
 
 -- what was gathered, as it was put
-pub pass-ended : (asking : Asking) (index index' total : ℕ) (held held' before now all : List ℕ) (written written' : Option (List ℕ)) (faults faults' : ℕ)
+pub pass-ended : (asking : Asked) (index index' total : ℕ) (held held' before now all : List ℕ) (written written' : Option (List ℕ)) (faults faults' : ℕ)
     (end result : Option AskEnd) → IfNone end (Gathers asking index index' held held' before now)
     → IfSome end (GatherEnds asking index held held' before now) → PutsLines end all written written' faults faults' result → before ≡ [] → all ≡ now
     → IfSome result (PassEnds asking index (record { held = held; taken = total }) (record { held = held'; taken = total }) written written')
@@ -127,7 +132,7 @@ pass-ended asking index index' total held held' before now all written written' 
     let same : ask.WriteFault ≡ e = cc broke.is in
     subst (PassEnds asking index (record { held = held; taken = total }) (record { held = held'; taken = total }) written written') same
     (PassEnds-broke asking index total held held' before now all on.payloads written written' faults faults' (Some e) none is on.added
-    (λ t bytes. ((taken_on asking.more t index' (held' ++ bytes)).payloads, ap (λ (there : Taken). there.payloads) (on.on t bytes))) broke)
+    (λ t bytes. ((taken_on asking t index' (held' ++ bytes)).payloads, ap (λ (there : Taken). there.payloads) (on.on t bytes))) broke)
 pass-ended asking index index' total held held' before now all written written' faults faults' (Some end) (Some e) on gathered (inl put) none is =
     let same : end ≡ e = cc put.same in
     subst (PassEnds asking index (record { held = held; taken = total }) (record { held = held'; taken = total }) written written') same
@@ -138,7 +143,7 @@ pass-ended asking index index' total held held' before now all written written' 
     (PassEnds-broke asking index total held held' before now all gathered.payloads written written' faults faults' (Some e) none is gathered.added
     (λ t bytes. leads-ends end gathered.payloads _ (gathered.ends t bytes)) broke)
 
-pub pass-faults : (asking : Asking) (index : ℕ) (held held' before now all : List ℕ) (written written' : Option (List ℕ)) (faults faults' : ℕ)
+pub pass-faults : (asking : Asked) (index : ℕ) (held held' before now all : List ℕ) (written written' : Option (List ℕ)) (faults faults' : ℕ)
     (end result : Option AskEnd) → IfSome end (GatherEnds asking index held held' before now) → PutsLines end all written written' faults faults' result
     → MatchOption result (faults' ≡ faults) (λ e. WriteFaults e faults faults')
 pass-faults asking index held held' before now all written written' faults faults' end None gathered (inl put) = put.sound

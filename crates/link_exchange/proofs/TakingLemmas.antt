@@ -11,7 +11,7 @@ use Rattle.message_frame.specs.Pieces.{ended}
 use Rattle.link_reach.specs.declared.deeds.Deed.{Deed}
 use Rattle.link_reach.specs.declared.deeds.Deed.TheVariants as deed
 use Rattle.link_reach.specs.Deeds.{Gains}
-use Rattle.link_exchange.specs.declared.asked.Asking.{Asking}
+use Rattle.link_exchange.specs.Asked.{Asked}
 use Rattle.link_exchange.specs.declared.ends.AskEnd.{AskEnd}
 use Rattle.link_exchange.specs.declared.ends.AskEnd.TheVariants as ask
 use Rattle.link_exchange.specs.Limits.{most_of_link}
@@ -40,13 +40,13 @@ snoc-front (a ∷ one) (b ∷ two) x y is =
     let later : one ≡ two = snoc-front one two x y rest in
     cc (first, later)
 
-pub none-needed : (asking : Asking) (inbox : Unread) → AreNeeded asking inbox []
+pub none-needed : (asking : Asked) (inbox : Unread) → AreNeeded asking inbox []
 none-needed asking inbox earlier last is = absurd (snoc-some earlier last is)
 
-needed-more : (asking : Asking) (inbox : Unread) (fed : List (List ℕ)) (piece : List ℕ)
-    → AwaitsMore (taken_on asking.more (inbox.taken + length (concat fed)) 0 (inbox.held ++ concat fed)).end → AreNeeded asking inbox (fed ++ piece ∷ [])
+needed-more : (asking : Asked) (inbox : Unread) (fed : List (List ℕ)) (piece : List ℕ)
+    → AwaitsMore (taken_on asking (inbox.taken + length (concat fed)) 0 (inbox.held ++ concat fed)).end → AreNeeded asking inbox (fed ++ piece ∷ [])
 needed-more asking inbox fed piece awaits earlier last is =
-    subst (λ (e : List (List ℕ)). AwaitsMore (taken_on asking.more (inbox.taken + length (concat e)) 0 (inbox.held ++ concat e)).end)
+    subst (λ (e : List (List ℕ)). AwaitsMore (taken_on asking (inbox.taken + length (concat e)) 0 (inbox.held ++ concat e)).end)
     (snoc-front fed earlier piece last is) awaits
 
 at_end-awaits : (full : Bool) (index : ℕ) → AwaitsMore (cond full ask.Long (ask.Ended index))
@@ -55,7 +55,7 @@ at_end-awaits false index = tt
 
 -- ---- so far
 
-pub Taking-none : (asking : Asking) (link : ℕ) (now : Stand) → length now.inbox.held ≤ now.inbox.taken → now.inbox.taken ≤ most_of_link → Taking asking link 0 now now
+pub Taking-none : (asking : Asked) (link : ℕ) (now : Stand) → length now.inbox.held ≤ now.inbox.taken → now.inbox.taken ≤ most_of_link → Taking asking link 0 now now
 Taking-none asking link now counted most = record {
   fed = [];
   payloads = [];
@@ -67,7 +67,7 @@ Taking-none asking link now counted most = record {
   below = omega arith;
   wrote = Appends-nil now.written;
   whole = append-nil now.inbox.held;
-  on = λ total bytes. ap (λ (l : List ℕ). taken_on asking.more total 0 (l ++ bytes)) (append-nil now.inbox.held);
+  on = λ total bytes. ap (λ (l : List ℕ). taken_on asking total 0 (l ++ bytes)) (append-nil now.inbox.held);
 }
 
 whole-more : (one two : List (List ℕ)) (all held held' : List ℕ) → all ≡ flat_map ended one ++ held → held ≡ flat_map ended two ++ held' → all ≡ flat_map ended (one ++ two) ++ held'
@@ -78,7 +78,7 @@ whole-more one two all held held' first second =
 lines-more : (mark : ℕ) (one two : List (List ℕ)) → lines mark one ++ lines mark two ≡ lines mark (one ++ two)
 lines-more mark one two = sym (flat_map-append (marked mark) one two)
 
-pub Taking-passed : (asking : Asking) (link index index' : ℕ) (old mid : Stand) (written' : Option (List ℕ)) (inbox' : Unread) → Taking asking link index old mid
+pub Taking-passed : (asking : Asked) (link index index' : ℕ) (old mid : Stand) (written' : Option (List ℕ)) (inbox' : Unread) → Taking asking link index old mid
     → PassesOn asking index index' mid.inbox inbox' mid.written written' → Taking asking link index' old (stand mid.log mid.left written' inbox')
 Taking-passed asking link index index' old mid written' inbox' taking passes = record {
   fed = taking.fed;
@@ -99,10 +99,10 @@ concat-more : (pieces : List (List ℕ)) (piece : List ℕ) → concat (pieces +
 concat-more pieces piece = concat-append pieces (piece ∷ []) ∙ ap (λ (l : List ℕ). concat pieces ++ l) (append-nil piece)
 
 -- what is taken of all that was taken so far
-taking-now : (asking : Asking) (link index : ℕ) (old mid : Stand) (total : ℕ) → (taking : Taking asking link index old mid)
-    → taken_on asking.more total 0 (old.inbox.held ++ concat taking.fed) ≡ takes taking.payloads (taken_on asking.more total index (mid.inbox.held ++ []))
+taking-now : (asking : Asked) (link index : ℕ) (old mid : Stand) (total : ℕ) → (taking : Taking asking link index old mid)
+    → taken_on asking total 0 (old.inbox.held ++ concat taking.fed) ≡ takes taking.payloads (taken_on asking total index (mid.inbox.held ++ []))
 taking-now asking link index old mid total taking =
-    ap (taken_on asking.more total 0) (sym (append-nil (old.inbox.held ++ concat taking.fed))) ∙ taking.on total []
+    ap (taken_on asking total 0) (sym (append-nil (old.inbox.held ++ concat taking.fed))) ∙ taking.on total []
 
 -- ---- ended by a message
 
@@ -114,6 +114,7 @@ prints-after mark (ask.NotReply i fault) payloads printed there later is prints 
 prints-after mark (ask.Continues i) payloads printed there later is prints = (ap (λ (l : List ℕ). lines mark payloads ++ l) prints.0 ∙ lines-more mark payloads later.payloads ∙ ap (λ (t : Taken). lines mark t.payloads) (sym is), prints.1 ∙ ap (λ (t : Taken). t.end) (sym is))
 prints-after mark (ask.Ended i) payloads printed there later is prints = (ap (λ (l : List ℕ). lines mark payloads ++ l) prints.0 ∙ lines-more mark payloads later.payloads ∙ ap (λ (t : Taken). lines mark t.payloads) (sym is), prints.1 ∙ ap (λ (t : Taken). t.end) (sym is))
 prints-after mark (ask.TooLong i) payloads printed there later is prints = (ap (λ (l : List ℕ). lines mark payloads ++ l) prints.0 ∙ lines-more mark payloads later.payloads ∙ ap (λ (t : Taken). lines mark t.payloads) (sym is), prints.1 ∙ ap (λ (t : Taken). t.end) (sym is))
+prints-after mark (ask.IllTyped i name) payloads printed there later is prints = (ap (λ (l : List ℕ). lines mark payloads ++ l) prints.0 ∙ lines-more mark payloads later.payloads ∙ ap (λ (t : Taken). lines mark t.payloads) (sym is), prints.1 ∙ ap (λ (t : Taken). t.end) (sym is))
 prints-after mark ask.Long payloads printed there later is prints = (ap (λ (l : List ℕ). lines mark payloads ++ l) prints.0 ∙ lines-more mark payloads later.payloads ∙ ap (λ (t : Taken). lines mark t.payloads) (sym is), prints.1 ∙ ap (λ (t : Taken). t.end) (sym is))
 prints-after mark ask.LinkFault payloads printed there later is prints = (ap (λ (l : List ℕ). lines mark payloads ++ l) prints.0 ∙ lines-more mark payloads later.payloads ∙ ap (λ (t : Taken). lines mark t.payloads) (sym is), subst AwaitsMore (ap (λ (t : Taken). t.end) (sym is)) prints.1)
 prints-after mark ask.WriteFault payloads printed there later is prints = (prints.0, ap (λ (t : Taken). lines mark t.payloads) is ∙ sym (lines-more mark payloads later.payloads) ∙ ap (λ (l : List ℕ). lines mark payloads ++ l) prints.1 ∙ sym (append_assoc (lines mark payloads) printed prints.0))
@@ -126,6 +127,7 @@ own-found link (ask.NotReply i fault) own = refl
 own-found link (ask.Continues i) own = refl
 own-found link (ask.Ended i) own = absurd own
 own-found link (ask.TooLong i) own = refl
+own-found link (ask.IllTyped i name) own = refl
 own-found link ask.Long own = absurd own
 own-found link ask.LinkFault own = absurd own
 own-found link ask.WriteFault own = refl
@@ -138,6 +140,7 @@ own-all (ask.NotReply i fault) left fed own = tt
 own-all (ask.Continues i) left fed own = tt
 own-all (ask.Ended i) left fed own = absurd own
 own-all (ask.TooLong i) left fed own = tt
+own-all (ask.IllTyped i name) left fed own = tt
 own-all ask.Long left fed own = absurd own
 own-all ask.LinkFault left fed own = absurd own
 own-all ask.WriteFault left fed own = tt
@@ -150,6 +153,7 @@ own-full (ask.NotReply i fault) total own = tt
 own-full (ask.Continues i) total own = tt
 own-full (ask.Ended i) total own = absurd own
 own-full (ask.TooLong i) total own = tt
+own-full (ask.IllTyped i name) total own = tt
 own-full ask.Long total own = absurd own
 own-full ask.LinkFault total own = absurd own
 own-full ask.WriteFault total own = tt
@@ -162,12 +166,13 @@ own-faults (ask.NotReply i fault) faults faults' own same = same
 own-faults (ask.Continues i) faults faults' own same = same
 own-faults (ask.Ended i) faults faults' own same = absurd own
 own-faults (ask.TooLong i) faults faults' own same = same
+own-faults (ask.IllTyped i name) faults faults' own same = same
 own-faults ask.Long faults faults' own same = absurd own
 own-faults ask.LinkFault faults faults' own same = absurd own
 own-faults ask.WriteFault faults faults' own same = same
 own-faults ask.Memory faults faults' own same = same
 
-pub Taking-ended : (asking : Asking) (link index : ℕ) (old mid : Stand) (written' : Option (List ℕ)) (inbox' : Unread) (end : AskEnd) → Taking asking link index old mid
+pub Taking-ended : (asking : Asked) (link index : ℕ) (old mid : Stand) (written' : Option (List ℕ)) (inbox' : Unread) (end : AskEnd) → Taking asking link index old mid
     → PassEnds asking index mid.inbox inbox' mid.written written' end → Took asking link old (stand mid.log mid.left written' inbox') end
 Taking-ended asking link index old mid written' inbox' end taking ends =
     let now = taking-now asking link index old mid inbox'.taken taking in
@@ -181,7 +186,7 @@ Taking-ended asking link index old mid written' inbox' end taking ends =
       most = omega (arith, ends.same, taking.most);
       wrote = Appends-trans old.written mid.written written' (lines asking.mark taking.payloads) ends.printed taking.wrote ends.wrote;
       prints = prints-after asking.mark end taking.payloads ends.printed _ _ now (ends.prints inbox'.taken []);
-      behind = λ last. whole-more taking.payloads (taken_on asking.more inbox'.taken index (mid.inbox.held ++ [])).payloads _ _ _ taking.whole (ends.behind last inbox'.taken [])
+      behind = λ last. whole-more taking.payloads (taken_on asking inbox'.taken index (mid.inbox.held ++ [])).payloads _ _ _ taking.whole (ends.behind last inbox'.taken [])
           ∙ ap (λ (t : Taken). flat_map ended t.payloads ++ inbox'.held) (sym now);
       all = own-all end old.left (concat taking.fed) ends.own;
       full = own-full end inbox'.taken ends.own;
@@ -190,19 +195,19 @@ Taking-ended asking link index old mid written' inbox' end taking ends =
 -- ---- ended by the link
 
 -- no message so far ended the call
-waits : (asking : Asking) (link index : ℕ) (old mid : Stand) (total : ℕ) → (taking : Taking asking link index old mid) → IsSettled mid.inbox.held
-    → taken_on asking.more total 0 (old.inbox.held ++ concat taking.fed) ≡ record { payloads = taking.payloads; end = at_end total index }
+waits : (asking : Asked) (link index : ℕ) (old mid : Stand) (total : ℕ) → (taking : Taking asking link index old mid) → IsSettled mid.inbox.held
+    → taken_on asking total 0 (old.inbox.held ++ concat taking.fed) ≡ record { payloads = taking.payloads; end = at_end total index }
 waits asking link index old mid total taking settled =
     taking-now asking link index old mid total taking
-    ∙ ap (λ (l : List ℕ). takes taking.payloads (taken_on asking.more total index l)) (append-nil mid.inbox.held)
-    ∙ ap (takes taking.payloads) (taken_on-settled asking.more total index mid.inbox.held settled)
+    ∙ ap (λ (l : List ℕ). takes taking.payloads (taken_on asking total index l)) (append-nil mid.inbox.held)
+    ∙ ap (takes taking.payloads) (taken_on-settled asking total index mid.inbox.held settled)
     ∙ ap (λ (ps : List (List ℕ)). record { payloads = ps; end = at_end total index }) (append-nil taking.payloads)
 
-pub Taking-took : (asking : Asking) (link index : ℕ) (old mid : Stand) (log' : Option (List Deed)) (left' : Option (List ℕ)) (inbox' : Unread) → Taking asking link index old mid → IsSettled mid.inbox.held
+pub Taking-took : (asking : Asked) (link index : ℕ) (old mid : Stand) (log' : Option (List Deed)) (left' : Option (List ℕ)) (inbox' : Unread) → Taking asking link index old mid → IsSettled mid.inbox.held
     → TakesMore link (stand mid.log mid.left None mid.inbox) (stand log' left' None inbox') → Taking asking link index old (stand log' left' mid.written inbox')
 Taking-took asking link index old mid log' left' inbox' taking settled took =
     let total : ℕ = old.inbox.taken + length (concat taking.fed) in
-    let awaits : AwaitsMore (taken_on asking.more total 0 (old.inbox.held ++ concat taking.fed)).end =
+    let awaits : AwaitsMore (taken_on asking total 0 (old.inbox.held ++ concat taking.fed)).end =
     subst (λ (t : Taken). AwaitsMore t.end) (sym (waits asking link index old mid total taking settled)) (at_end-awaits _ index) in
     let fed : List (List ℕ) = taking.fed ++ took.piece ∷ [] in
     let joined : concat fed ≡ concat taking.fed ++ took.piece = concat-more taking.fed took.piece in
@@ -224,11 +229,11 @@ Taking-took asking link index old mid log' left' inbox' taking settled took =
       whole = ap (λ (l : List ℕ). old.inbox.held ++ l) joined ∙ sym (append_assoc old.inbox.held (concat taking.fed) took.piece)
           ∙ ap (λ (l : List ℕ). l ++ took.piece) taking.whole ∙ append_assoc (flat_map ended taking.payloads) mid.inbox.held took.piece
           ∙ ap (λ (l : List ℕ). flat_map ended taking.payloads ++ l) (sym held);
-      on = λ total bytes. ap (taken_on asking.more total 0) (ap (λ (l : List ℕ). (old.inbox.held ++ l) ++ bytes) joined
+      on = λ total bytes. ap (taken_on asking total 0) (ap (λ (l : List ℕ). (old.inbox.held ++ l) ++ bytes) joined
           ∙ ap (λ (l : List ℕ). l ++ bytes) (sym (append_assoc old.inbox.held (concat taking.fed) took.piece))
           ∙ append_assoc (old.inbox.held ++ concat taking.fed) took.piece bytes)
           ∙ taking.on total (took.piece ++ bytes)
-          ∙ ap (λ (l : List ℕ). takes taking.payloads (taken_on asking.more total index l)) (sym (append_assoc mid.inbox.held took.piece bytes)
+          ∙ ap (λ (l : List ℕ). takes taking.payloads (taken_on asking total index l)) (sym (append_assoc mid.inbox.held took.piece bytes)
           ∙ ap (λ (l : List ℕ). l ++ bytes) (sym held));
     }
 
@@ -239,9 +244,9 @@ at_end-full : (total index : ℕ) → total ≡ most_of_link → at_end total in
 at_end-full total index h = ap (λ (b : Bool). cond b ask.Long (ask.Ended index)) (eq-eqb total most_of_link h)
 
 -- the parts of which each end by the link is made
-stops : (asking : Asking) (link index : ℕ) (old mid : Stand) (log' : Option (List Deed)) (left' : Option (List ℕ)) (inbox' : Unread) (end : AskEnd) (gained : List Deed)
+stops : (asking : Asked) (link index : ℕ) (old mid : Stand) (log' : Option (List Deed)) (left' : Option (List ℕ)) (inbox' : Unread) (end : AskEnd) (gained : List Deed)
     → (taking : Taking asking link index old mid) → Gains mid.log log' gained → found_end link end ≡ gained → Consumes mid.left left' [] → inbox' ≡ mid.inbox
-    → Prints asking.mark end (lines asking.mark taking.payloads) (taken_on asking.more inbox'.taken 0 (old.inbox.held ++ concat taking.fed))
+    → Prints asking.mark end (lines asking.mark taking.payloads) (taken_on asking inbox'.taken 0 (old.inbox.held ++ concat taking.fed))
     → (IsLast end → ⊥) → TakesAll end old.left (concat taking.fed) → IsFull end inbox'.taken → Took asking link old (stand log' left' mid.written inbox') end
 stops asking link index old mid log' left' inbox' end gained taking gains found none same prints open_ all full =
     let kept : inbox'.taken ≡ mid.inbox.taken = ap (λ (u : Unread). u.taken) same in
@@ -274,7 +279,7 @@ end-is payloads there end other is same = sym (ap (λ (t : Taken). t.end) is ∙
 lines-is : (mark : ℕ) (payloads : List (List ℕ)) (there : Taken) (end : AskEnd) → there ≡ record { payloads = payloads; end = end } → lines mark payloads ≡ lines mark there.payloads
 lines-is mark payloads there end is = ap (λ (t : Taken). lines mark t.payloads) (sym is)
 
-pub Taking-stopped : (asking : Asking) (link index : ℕ) (old mid : Stand) (log' : Option (List Deed)) (left' : Option (List ℕ)) (inbox' : Unread) (end : AskEnd)
+pub Taking-stopped : (asking : Asked) (link index : ℕ) (old mid : Stand) (log' : Option (List Deed)) (left' : Option (List ℕ)) (inbox' : Unread) (end : AskEnd)
     → Taking asking link index old mid → IsSettled mid.inbox.held → TakesNoMore link index (stand mid.log mid.left None mid.inbox) (stand log' left' None inbox') end
     → Took asking link old (stand log' left' mid.written inbox') end
 Taking-stopped asking link index old mid log' left' inbox' (ask.Ended at) taking settled none =
@@ -304,6 +309,7 @@ Taking-stopped asking link index old mid log' left' inbox' (ask.ErrorReply name)
 Taking-stopped asking link index old mid log' left' inbox' (ask.NotReply i fault) taking settled none = absurd none
 Taking-stopped asking link index old mid log' left' inbox' (ask.Continues i) taking settled none = absurd none
 Taking-stopped asking link index old mid log' left' inbox' (ask.TooLong i) taking settled none = absurd none
+Taking-stopped asking link index old mid log' left' inbox' (ask.IllTyped i name) taking settled none = absurd none
 Taking-stopped asking link index old mid log' left' inbox' ask.WriteFault taking settled none = absurd none
 
 pub stopped-writes : (link index : ℕ) (old new : Stand) (end : AskEnd) → TakesNoMore link index old new end → (faults faults' : ℕ) → faults' ≡ faults → WriteFaults end faults faults'
@@ -313,6 +319,7 @@ stopped-writes link index old new (ask.NotReply i fault) none faults faults' sam
 stopped-writes link index old new (ask.Continues i) none faults faults' same = absurd none
 stopped-writes link index old new (ask.Ended i) none faults faults' same = same
 stopped-writes link index old new (ask.TooLong i) none faults faults' same = absurd none
+stopped-writes link index old new (ask.IllTyped i name) none faults faults' same = absurd none
 stopped-writes link index old new ask.Long none faults faults' same = same
 stopped-writes link index old new ask.LinkFault none faults faults' same = same
 stopped-writes link index old new ask.WriteFault none faults faults' same = absurd none

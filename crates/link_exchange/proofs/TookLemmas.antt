@@ -13,7 +13,7 @@ use Rattle.link_reach.specs.declared.deeds.DialFault.{DialFault}
 use Rattle.link_reach.specs.declared.deeds.DialFault.TheVariants as dial_fault
 use Rattle.link_reach.specs.Deeds.{Gains}
 use Rattle.link_reach.specs.Worlds.{Said, Link, Spot, spot, sends, left_of}
-use Rattle.link_exchange.specs.declared.asked.Asking.{Asking}
+use Rattle.link_exchange.specs.Asked.{Asked}
 use Rattle.link_exchange.specs.declared.ends.AskEnd.{AskEnd}
 use Rattle.link_exchange.specs.declared.ends.AskEnd.TheVariants as ask
 use Rattle.link_exchange.specs.declared.verdicts.Verdict.{Verdict}
@@ -41,10 +41,10 @@ not-at-end : (full : Bool) (index : ℕ) → IsAtMessage (cond full ask.Long (as
 not-at-end true index at = at
 not-at-end false index at = at
 
-further-rest : (more : Bool) (total total' index : ℕ) (rest extra : List ℕ) (long : Bool) → nat_lt most_of_reply (length rest) ≡ long → NoNul rest
-    → IsAtMessage (cond long (ask.TooLong index) (at_end total index)) → taken_on more total' index (rest ++ extra) ≡ takes_none (cond long (ask.TooLong index) (at_end total index))
-further-rest more total total' index rest extra true is no_nul at = taken_on-too_long more total' index rest extra no_nul (ltb-true _ _ is)
-further-rest more total total' index rest extra false is no_nul at = absurd (not-at-end _ index at)
+further-rest : (asked : Asked) (total total' index : ℕ) (rest extra : List ℕ) (long : Bool) → nat_lt most_of_reply (length rest) ≡ long → NoNul rest
+    → IsAtMessage (cond long (ask.TooLong index) (at_end total index)) → taken_on asked total' index (rest ++ extra) ≡ takes_none (cond long (ask.TooLong index) (at_end total index))
+further-rest asked total total' index rest extra true is no_nul at = taken_on-too_long asked total' index rest extra no_nul (ltb-true _ _ is)
+further-rest asked total total' index rest extra false is no_nul at = absurd (not-at-end _ index at)
 
 by-same : (payload : List ℕ) (verdict : Verdict) (a b : Taken) → (IsAtMessage b.end → a ≡ b) → IsAtMessage (by_verdict payload verdict b).end
     → by_verdict payload verdict a ≡ by_verdict payload verdict b
@@ -52,21 +52,21 @@ by-same payload Goes a b same at = ap (takes (payload ∷ [])) (same at)
 by-same payload (Last end) a b same at = refl
 by-same payload (Astray end) a b same at = refl
 
-further : (more : Bool) (total total' index : ℕ) (payloads : List (List ℕ)) (rest extra : List ℕ) → AllByRecursion NoNul payloads → NoNul rest
-    → IsAtMessage (taken_of more total index payloads rest).end
-    → taken_on more total' index ((flat_map ended payloads ++ rest) ++ extra) ≡ taken_of more total index payloads rest
+further : (asked : Asked) (total total' index : ℕ) (payloads : List (List ℕ)) (rest extra : List ℕ) → AllByRecursion NoNul payloads → NoNul rest
+    → IsAtMessage (taken_of asked total index payloads rest).end
+    → taken_on asked total' index ((flat_map ended payloads ++ rest) ++ extra) ≡ taken_of asked total index payloads rest
 unfolding taken_of
-further more total total' index [] rest extra each no_nul at = further-rest more total total' index rest extra (nat_lt most_of_reply (length rest)) refl no_nul at
-further more total total' index (payload ∷ payloads) rest extra each no_nul at =
-    taken_on-ended more total' index _ payload (flat_map ended payloads ++ rest) extra (append_assoc (ended payload) (flat_map ended payloads) rest) each.0
-    ∙ by-same payload (judged more index payload) _ _ (further more total total' (index + 1) payloads rest extra each.1 no_nul) at
+further asked total total' index [] rest extra each no_nul at = further-rest asked total total' index rest extra (nat_lt most_of_reply (length rest)) refl no_nul at
+further asked total total' index (payload ∷ payloads) rest extra each no_nul at =
+    taken_on-ended asked total' index _ payload (flat_map ended payloads ++ rest) extra (append_assoc (ended payload) (flat_map ended payloads) rest) each.0
+    ∙ by-same payload (judged asked index payload) _ _ (further asked total total' (index + 1) payloads rest extra each.1 no_nul) at
 
-further-on : (more : Bool) (total total' index : ℕ) (bytes extra : List ℕ) → IsAtMessage (taken_on more total index bytes).end
-    → taken_on more total' index (bytes ++ extra) ≡ taken_on more total index bytes
-further-on more total total' index bytes extra at =
+further-on : (asked : Asked) (total total' index : ℕ) (bytes extra : List ℕ) → IsAtMessage (taken_on asked total index bytes).end
+    → taken_on asked total' index (bytes ++ extra) ≡ taken_on asked total index bytes
+further-on asked total total' index bytes extra at =
     let are = ArePieces-pieces bytes in
-    ap (λ (b : List ℕ). taken_on more total' index (b ++ extra)) are.whole
-    ∙ further more total total' index (pieces bytes).payloads (pieces bytes).rest extra are.each are.open_end at
+    ap (λ (b : List ℕ). taken_on asked total' index (b ++ extra)) are.whole
+    ∙ further asked total total' index (pieces bytes).payloads (pieces bytes).rest extra are.each are.open_end at
 
 -- ---- all that is left on the link
 
@@ -81,47 +81,50 @@ front-left left None fed took = absurd took
 front-left left (Some rest) fed took = (rest, took)
 
 -- what is taken of all that is left, where as much was taken as there is, or a message ended the call
-left-all : (more : Bool) (before total : ℕ) (held fed left : List ℕ) → total ≡ before + length fed → within_most before left ≡ fed
-    → taken_on more (before + length (within_most before left)) 0 (held ++ within_most before left) ≡ taken_on more total 0 (held ++ fed)
-left-all more before total held fed left counted is =
-    ap (λ (b : List ℕ). taken_on more (before + length b) 0 (held ++ b)) is ∙ ap (λ (n : ℕ). taken_on more n 0 (held ++ fed)) (sym counted)
+left-all : (asked : Asked) (before total : ℕ) (held fed left : List ℕ) → total ≡ before + length fed → within_most before left ≡ fed
+    → taken_on asked (before + length (within_most before left)) 0 (held ++ within_most before left) ≡ taken_on asked total 0 (held ++ fed)
+left-all asked before total held fed left counted is =
+    ap (λ (b : List ℕ). taken_on asked (before + length b) 0 (held ++ b)) is ∙ ap (λ (n : ℕ). taken_on asked n 0 (held ++ fed)) (sym counted)
 
-left-message : (more : Bool) (before total : ℕ) (held fed rest left : List ℕ) → total ≡ before + length fed → total ≤ most_of_link → left ≡ fed ++ rest
-    → IsAtMessage (taken_on more total 0 (held ++ fed)).end
-    → taken_on more (before + length (within_most before left)) 0 (held ++ within_most before left) ≡ taken_on more total 0 (held ++ fed)
-left-message more before total held fed rest left counted most is at =
+left-message : (asked : Asked) (before total : ℕ) (held fed rest left : List ℕ) → total ≡ before + length fed → total ≤ most_of_link → left ≡ fed ++ rest
+    → IsAtMessage (taken_on asked total 0 (held ++ fed)).end
+    → taken_on asked (before + length (within_most before left)) 0 (held ++ within_most before left) ≡ taken_on asked total 0 (held ++ fed)
+left-message asked before total held fed rest left counted most is at =
     let extra : List ℕ = take (most_of_link - before - length fed) rest in
     let bytes : within_most before left ≡ fed ++ extra = ap (take (most_of_link - before)) is ∙ front-taken (most_of_link - before) fed rest (omega arith) in
-    ap (λ (b : List ℕ). taken_on more (before + length b) 0 (held ++ b)) bytes
-    ∙ ap (taken_on more (before + length (fed ++ extra)) 0) (sym (append_assoc held fed extra))
-    ∙ further-on more total (before + length (fed ++ extra)) 0 (held ++ fed) extra at
+    ap (λ (b : List ℕ). taken_on asked (before + length b) 0 (held ++ b)) bytes
+    ∙ ap (taken_on asked (before + length (fed ++ extra)) 0) (sym (append_assoc held fed extra))
+    ∙ further-on asked total (before + length (fed ++ extra)) 0 (held ++ fed) extra at
 
-taken-left : (more : Bool) (before total : ℕ) (held fed left : List ℕ) (now : Option (List ℕ)) (end : AskEnd) → total ≡ before + length fed → total ≤ most_of_link
-    → Consumes (Some left) now fed → IsTold end → end ≡ (taken_on more total 0 (held ++ fed)).end → TakesAll end (Some left) fed → IsFull end total
-    → taken_on more (before + length (within_most before left)) 0 (held ++ within_most before left) ≡ taken_on more total 0 (held ++ fed)
-taken-left more before total held fed left now (ask.Done n) counted most took told is all full =
+taken-left : (asked : Asked) (before total : ℕ) (held fed left : List ℕ) (now : Option (List ℕ)) (end : AskEnd) → total ≡ before + length fed → total ≤ most_of_link
+    → Consumes (Some left) now fed → IsTold end → end ≡ (taken_on asked total 0 (held ++ fed)).end → TakesAll end (Some left) fed → IsFull end total
+    → taken_on asked (before + length (within_most before left)) 0 (held ++ within_most before left) ≡ taken_on asked total 0 (held ++ fed)
+taken-left asked before total held fed left now (ask.Done n) counted most took told is all full =
     let front = front-left left now fed took in
-    left-message more before total held fed front.0 left counted most front.1 (subst IsAtMessage is tt)
-taken-left more before total held fed left now (ask.ErrorReply name) counted most took told is all full =
+    left-message asked before total held fed front.0 left counted most front.1 (subst IsAtMessage is tt)
+taken-left asked before total held fed left now (ask.ErrorReply name) counted most took told is all full =
     let front = front-left left now fed took in
-    left-message more before total held fed front.0 left counted most front.1 (subst IsAtMessage is tt)
-taken-left more before total held fed left now (ask.NotReply i fault) counted most took told is all full =
+    left-message asked before total held fed front.0 left counted most front.1 (subst IsAtMessage is tt)
+taken-left asked before total held fed left now (ask.NotReply i fault) counted most took told is all full =
     let front = front-left left now fed took in
-    left-message more before total held fed front.0 left counted most front.1 (subst IsAtMessage is tt)
-taken-left more before total held fed left now (ask.Continues i) counted most took told is all full =
+    left-message asked before total held fed front.0 left counted most front.1 (subst IsAtMessage is tt)
+taken-left asked before total held fed left now (ask.Continues i) counted most took told is all full =
     let front = front-left left now fed took in
-    left-message more before total held fed front.0 left counted most front.1 (subst IsAtMessage is tt)
-taken-left more before total held fed left now (ask.Ended i) counted most took told is all full = left-all more before total held fed left counted (take_all (most_of_link - before) left (omega (arith, ap length all, counted, most)) ∙ sym all)
-taken-left more before total held fed left now (ask.TooLong i) counted most took told is all full =
+    left-message asked before total held fed front.0 left counted most front.1 (subst IsAtMessage is tt)
+taken-left asked before total held fed left now (ask.Ended i) counted most took told is all full = left-all asked before total held fed left counted (take_all (most_of_link - before) left (omega (arith, ap length all, counted, most)) ∙ sym all)
+taken-left asked before total held fed left now (ask.TooLong i) counted most took told is all full =
     let front = front-left left now fed took in
-    left-message more before total held fed front.0 left counted most front.1 (subst IsAtMessage is tt)
-taken-left more before total held fed left now ask.Long counted most took told is all full =
+    left-message asked before total held fed front.0 left counted most front.1 (subst IsAtMessage is tt)
+taken-left asked before total held fed left now (ask.IllTyped i name) counted most took told is all full =
     let front = front-left left now fed took in
-    left-all more before total held fed left counted (ap (take (most_of_link - before)) front.1 ∙ front-taken (most_of_link - before) fed front.0 (omega (arith, counted, full))
+    left-message asked before total held fed front.0 left counted most front.1 (subst IsAtMessage is tt)
+taken-left asked before total held fed left now ask.Long counted most took told is all full =
+    let front = front-left left now fed took in
+    left-all asked before total held fed left counted (ap (take (most_of_link - before)) front.1 ∙ front-taken (most_of_link - before) fed front.0 (omega (arith, counted, full))
     ∙ ap (λ (n : ℕ). fed ++ take n front.0) (let none : most_of_link - before - length fed ≡ 0 = omega (arith, counted, full) in none) ∙ append-nil fed)
-taken-left more before total held fed left now ask.LinkFault counted most took told is all full = absurd told
-taken-left more before total held fed left now ask.WriteFault counted most took told is all full = absurd told
-taken-left more before total held fed left now ask.Memory counted most took told is all full = absurd told
+taken-left asked before total held fed left now ask.LinkFault counted most took told is all full = absurd told
+taken-left asked before total held fed left now ask.WriteFault counted most took told is all full = absurd told
+taken-left asked before total held fed left now ask.Memory counted most took told is all full = absurd told
 
 told-prints : (mark : ℕ) (end : AskEnd) (printed : List ℕ) (there : Taken) → IsTold end → Prints mark end printed there → (printed ≡ lines mark there.payloads) × (end ≡ there.end)
 told-prints mark (ask.Done n) printed there told prints = prints
@@ -130,28 +133,29 @@ told-prints mark (ask.NotReply i fault) printed there told prints = prints
 told-prints mark (ask.Continues i) printed there told prints = prints
 told-prints mark (ask.Ended i) printed there told prints = prints
 told-prints mark (ask.TooLong i) printed there told prints = prints
+told-prints mark (ask.IllTyped i name) printed there told prints = prints
 told-prints mark ask.Long printed there told prints = prints
 told-prints mark ask.LinkFault printed there told prints = absurd told
 told-prints mark ask.WriteFault printed there told prints = absurd told
 told-prints mark ask.Memory printed there told prints = absurd told
 
-taken-answered : (asking : Asking) (total : ℕ) (bytes : List ℕ) → asking.oneway ≡ false → taken asking.oneway asking.more total bytes ≡ taken_on asking.more total 0 bytes
-taken-answered asking total bytes is = ap (λ (b : Bool). cond b (takes_none (ask.Done 0)) (taken_on asking.more total 0 bytes)) is
+taken-answered : (asking : Asked) (total : ℕ) (bytes : List ℕ) → asking.oneway ≡ false → taken asking total bytes ≡ taken_on asking total 0 bytes
+taken-answered asking total bytes is = ap (λ (b : Bool). cond b (takes_none (ask.Done 0)) (taken_on asking total 0 bytes)) is
 
-taken-oneway : (asking : Asking) (total : ℕ) (bytes : List ℕ) → asking.oneway ≡ true → taken asking.oneway asking.more total bytes ≡ takes_none (ask.Done 0)
-taken-oneway asking total bytes is = ap (λ (b : Bool). cond b (takes_none (ask.Done 0)) (taken_on asking.more total 0 bytes)) is
+taken-oneway : (asking : Asked) (total : ℕ) (bytes : List ℕ) → asking.oneway ≡ true → taken asking total bytes ≡ takes_none (ask.Done 0)
+taken-oneway asking total bytes is = ap (λ (b : Bool). cond b (takes_none (ask.Done 0)) (taken_on asking total 0 bytes)) is
 
-Took-left : (asking : Asking) (link : ℕ) (old new : Stand) (end : AskEnd) (left : List ℕ) → asking.oneway ≡ false → Took asking link old new end → old.left ≡ Some left → IsTold end
+Took-left : (asking : Asked) (link : ℕ) (old new : Stand) (end : AskEnd) (left : List ℕ) → asking.oneway ≡ false → Took asking link old new end → old.left ≡ Some left → IsTold end
     → TakesLeft asking old.inbox left old.written new.written end
 Took-left asking link old new end left answered took is told =
     let fed : List ℕ = concat took.fed in
     let held : List ℕ = old.inbox.held in
     let bytes : List ℕ = within_most old.inbox.taken left in
     let prints = told-prints asking.mark end took.printed _ told took.prints in
-    let same : taken_on asking.more (old.inbox.taken + length bytes) 0 (held ++ bytes) ≡ taken_on asking.more new.inbox.taken 0 (held ++ fed) =
-    taken-left asking.more old.inbox.taken new.inbox.taken held fed left new.left end took.counted took.most
+    let same : taken_on asking (old.inbox.taken + length bytes) 0 (held ++ bytes) ≡ taken_on asking new.inbox.taken 0 (held ++ fed) =
+    taken-left asking old.inbox.taken new.inbox.taken held fed left new.left end took.counted took.most
     (subst (λ (l : Option (List ℕ)). Consumes l new.left fed) is took.consumed) told prints.1 (subst (λ (l : Option (List ℕ)). TakesAll end l fed) is took.all) took.full in
-    let there : taken asking.oneway asking.more (old.inbox.taken + length bytes) (held ++ bytes) ≡ taken_on asking.more new.inbox.taken 0 (held ++ fed) =
+    let there : taken asking (old.inbox.taken + length bytes) (held ++ bytes) ≡ taken_on asking new.inbox.taken 0 (held ++ fed) =
     taken-answered asking _ _ answered ∙ same in
     (subst (Appends old.written new.written) (prints.0 ∙ ap (λ (t : Taken). lines asking.mark t.payloads) (sym there)) took.wrote, prints.1 ∙ ap (λ (t : Taken). t.end) (sym there))
 
@@ -167,7 +171,7 @@ spot-left None (Some link) at is = absurd (let no : ⊥ = cc is in no)
 spot-left (Some world) None at is = absurd (let no : ⊥ = cc is in no)
 spot-left (Some world) (Some link) at is = let same : record { world = world; link = link } ≡ at = cc is in ap (λ (s : Spot _). Some s.link.left) same
 
-pub ExchangedIn-took : {W : Type 0} (says : W → List ℕ → List ℕ → Said W) (asking : Asking) (text : List ℕ) (link : ℕ) (log : Option (List Deed)) (written : Option (List ℕ))
+pub ExchangedIn-took : {W : Type 0} (says : W → List ℕ → List ℕ → Said W) (asking : Asked) (text : List ℕ) (link : ℕ) (log : Option (List Deed)) (written : Option (List ℕ))
     (inbox : Unread) (new : Stand) (at : Option (Spot W)) (world world' : Option W) (leads : Option Link) (end : AskEnd) → asking.oneway ≡ false
     → spot world leads ≡ option_map (sends says text) at → world' ≡ world → Took asking link (stand log (left_of leads) written inbox) new end → IsTold end
     → ExchangedIn says asking text inbox at world' written new.written end
@@ -179,7 +183,7 @@ ExchangedIn-took says asking text link log written inbox new (Some at) world wor
 
 -- ---- the whole call
 
-pub Exchanged-took : (asking : Asking) (text : List ℕ) (link : ℕ) (old new : Stand) (log' : Option (List Deed)) (left' : Option (List ℕ)) (end : AskEnd) → asking.oneway ≡ false
+pub Exchanged-took : (asking : Asked) (text : List ℕ) (link : ℕ) (old new : Stand) (log' : Option (List Deed)) (left' : Option (List ℕ)) (end : AskEnd) → asking.oneway ≡ false
     → SendsPieces link text old.log log' [] → Took asking link (stand log' left' old.written old.inbox) new end → Exchanged asking text link old new end
 Exchanged-took asking text link old new log' left' end answered sent took =
     let there = sym (taken-answered asking new.inbox.taken (old.inbox.held ++ concat took.fed) answered) in
@@ -201,7 +205,7 @@ Exchanged-took asking text link old new log' left' end answered sent took =
       });
     }
 
-pub Exchanged-oneway : (asking : Asking) (text : List ℕ) (link : ℕ) (old : Stand) (log' : Option (List Deed)) (left' : Option (List ℕ)) → asking.oneway ≡ true
+pub Exchanged-oneway : (asking : Asked) (text : List ℕ) (link : ℕ) (old : Stand) (log' : Option (List Deed)) (left' : Option (List ℕ)) → asking.oneway ≡ true
     → SendsPieces link text old.log log' [] → Exchanged asking text link old (stand log' left' old.written old.inbox) (ask.Done 0)
 Exchanged-oneway asking text link old log' left' oneway sent =
     let there = sym (taken-oneway asking old.inbox.taken (old.inbox.held ++ []) oneway) in
@@ -231,7 +235,7 @@ is-broken : (fault : DialFault) → IsBroken (link_end fault)
 is-broken dial_fault.Failed = tt
 is-broken dial_fault.Memory = tt
 
-pub Exchanged-broken : (asking : Asking) (text : List ℕ) (link : ℕ) (old : Stand) (log' : Option (List Deed)) (left' : Option (List ℕ)) (fault : DialFault) (end : AskEnd)
+pub Exchanged-broken : (asking : Asked) (text : List ℕ) (link : ℕ) (old : Stand) (log' : Option (List Deed)) (left' : Option (List ℕ)) (fault : DialFault) (end : AskEnd)
     → end ≡ link_end fault → SendsAll link text old.log log' (Err fault) → Exchanged asking text link old (stand log' left' old.written old.inbox) end
 Exchanged-broken asking text link old log' left' fault end is sent =
     subst (Exchanged asking text link old (stand log' left' old.written old.inbox)) (sym is) (record {

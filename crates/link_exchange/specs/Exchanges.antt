@@ -7,7 +7,7 @@ use Rattle.link_reach.specs.declared.deeds.Deed.{Deed}
 use Rattle.link_reach.specs.declared.deeds.Deed.TheVariants as deed
 use Rattle.link_reach.specs.Deeds.{Gains}
 use Rattle.link_reach.specs.Worlds.{Said, Spot, sends}
-use Rattle.link_exchange.specs.declared.asked.Asking.{Asking}
+use Rattle.link_exchange.specs.Asked.{Asked}
 use Rattle.link_exchange.specs.declared.ends.AskEnd.{AskEnd}
 use Rattle.link_exchange.specs.declared.ends.AskEnd.TheVariants.{Ended, Long, LinkFault, WriteFault, Memory}
 use Rattle.link_exchange.specs.Limits.{most_of_link}
@@ -40,12 +40,12 @@ IsFull Long total = total ≡ most_of_link
 IsFull _ total = ⊤
 
 -- each piece was needed: what was held, and taken before the last piece, awaits more
-abbrev pub AreNeeded : Asking → Unread → List (List ℕ) → Type 0
+abbrev pub AreNeeded : Asked → Unread → List (List ℕ) → Type 0
 AreNeeded asking inbox fed = (earlier : List (List ℕ)) (last : List ℕ) → fed ≡ earlier ++ last ∷ []
-    → AwaitsMore (taken_on asking.more (inbox.taken + length (concat earlier)) 0 (inbox.held ++ concat earlier)).end
+    → AwaitsMore (taken_on asking (inbox.taken + length (concat earlier)) 0 (inbox.held ++ concat earlier)).end
 
 -- so far these pieces were taken from the link, and these payloads passed on; the message of this index comes next
-pub record Taking (asking : Asking) (link index : ℕ) (old new : Stand) : Type 0 where
+pub record Taking (asking : Asked) (link index : ℕ) (old new : Stand) : Type 0 where
   pub fed : List (List ℕ)
   pub payloads : List (List ℕ)
   pub log : Gains old.log new.log (takes_on link fed)
@@ -57,11 +57,11 @@ pub record Taking (asking : Asking) (link index : ℕ) (old new : Stand) : Type 
   pub wrote : Appends old.written new.written (lines asking.mark payloads)
   pub whole : old.inbox.held ++ concat fed ≡ flat_map ended payloads ++ new.inbox.held
   pub on : (total : ℕ) (bytes : List ℕ)
-      → taken_on asking.more total 0 ((old.inbox.held ++ concat fed) ++ bytes) ≡ takes payloads (taken_on asking.more total index (new.inbox.held ++ bytes))
+      → taken_on asking total 0 ((old.inbox.held ++ concat fed) ++ bytes) ≡ takes payloads (taken_on asking total index (new.inbox.held ++ bytes))
 
 -- replies were taken on an open link, behind what was held: these pieces were taken from the link, and what was passed
 -- on and the end are those of what is held and taken
-pub record Took (asking : Asking) (link : ℕ) (old new : Stand) (end : AskEnd) : Type 0 where
+pub record Took (asking : Asked) (link : ℕ) (old new : Stand) (end : AskEnd) : Type 0 where
   pub fed : List (List ℕ)
   pub printed : List ℕ
   pub log : Gains old.log new.log (takes_on link fed ++ found_end link end)
@@ -70,9 +70,9 @@ pub record Took (asking : Asking) (link : ℕ) (old new : Stand) (end : AskEnd) 
   pub counted : new.inbox.taken ≡ old.inbox.taken + length (concat fed)
   pub most : new.inbox.taken ≤ most_of_link
   pub wrote : Appends old.written new.written printed
-  pub prints : Prints asking.mark end printed (taken_on asking.more new.inbox.taken 0 (old.inbox.held ++ concat fed))
+  pub prints : Prints asking.mark end printed (taken_on asking new.inbox.taken 0 (old.inbox.held ++ concat fed))
   pub behind : IsLast end → old.inbox.held ++ concat fed
-      ≡ flat_map ended (taken_on asking.more new.inbox.taken 0 (old.inbox.held ++ concat fed)).payloads ++ new.inbox.held
+      ≡ flat_map ended (taken_on asking new.inbox.taken 0 (old.inbox.held ++ concat fed)).payloads ++ new.inbox.held
   pub all : TakesAll end old.left (concat fed)
   pub full : IsFull end new.inbox.taken
 
@@ -83,10 +83,10 @@ IsBroken Memory = ⊤
 IsBroken _ = ⊥
 
 -- the text was sent whole, and what was passed on and the end are those of what is taken of these bytes
-pub record CameTo (asking : Asking) (unsent bytes : List ℕ) (total : ℕ) (printed held' : List ℕ) (end : AskEnd) : Type 0 where
+pub record CameTo (asking : Asked) (unsent bytes : List ℕ) (total : ℕ) (printed held' : List ℕ) (end : AskEnd) : Type 0 where
   pub whole : unsent ≡ []
-  pub prints : Prints asking.mark end printed (taken asking.oneway asking.more total bytes)
-  pub behind : IsLast end → bytes ≡ flat_map ended (taken asking.oneway asking.more total bytes).payloads ++ held'
+  pub prints : Prints asking.mark end printed (taken asking total bytes)
+  pub behind : IsLast end → bytes ≡ flat_map ended (taken asking total bytes).payloads ++ held'
 
 -- a part of the text could not be sent; then nothing was taken or passed on
 pub record BrokeOff (unsent : List ℕ) (fed : List (List ℕ)) (printed : List ℕ) (end : AskEnd) : Type 0 where
@@ -98,7 +98,7 @@ pub record BrokeOff (unsent : List ℕ) (fed : List (List ℕ)) (printed : List 
 -- one call was made on an open link: its text was sent once, these pieces were taken from the link, as many as were needed,
 -- and nothing else was done; a `oneway` call takes nothing. What was passed on and the end are those of what is held and taken, as `taken` has
 -- them, unless a part of the text could not be sent
-pub record Exchanged (asking : Asking) (text : List ℕ) (link : ℕ) (old new : Stand) (end : AskEnd) : Type 0 where
+pub record Exchanged (asking : Asked) (text : List ℕ) (link : ℕ) (old new : Stand) (end : AskEnd) : Type 0 where
   pub sent : List (List ℕ)
   pub unsent : List ℕ
   pub fed : List (List ℕ)
@@ -124,15 +124,15 @@ abbrev pub within_most : ℕ → List ℕ → List ℕ
 within_most taken left = take (most_of_link - taken) left
 
 -- what was passed on, and the end, are those of what is held and left on the link
-abbrev pub TakesLeft : Asking → Unread → List ℕ → Option (List ℕ) → Option (List ℕ) → AskEnd → Type 0
+abbrev pub TakesLeft : Asked → Unread → List ℕ → Option (List ℕ) → Option (List ℕ) → AskEnd → Type 0
 TakesLeft asking inbox left written written' end =
     let bytes = within_most inbox.taken left in
-    let there = taken asking.oneway asking.more (inbox.taken + length bytes) (inbox.held ++ bytes) in
+    let there = taken asking (inbox.taken + length bytes) (inbox.held ++ bytes) in
     Appends written written' (lines asking.mark there.payloads) × (end ≡ there.end)
 
 -- where the world is told: it is the world behind the text, and what was passed on and the end are those of what its
 -- peer says to the text
-abbrev pub ExchangedIn : {W : Type 0} → (W → List ℕ → List ℕ → Said W) → Asking → List ℕ → Unread → Option (Spot W) → Option W
+abbrev pub ExchangedIn : {W : Type 0} → (W → List ℕ → List ℕ → Said W) → Asked → List ℕ → Unread → Option (Spot W) → Option W
     → Option (List ℕ) → Option (List ℕ) → AskEnd → Type 0
 ExchangedIn says asking text inbox None world' written written' end = ⊤
 ExchangedIn says asking text inbox (Some at) world' written written' end =

@@ -10,7 +10,7 @@ use Rattle.link_reach.specs.declared.deeds.Deed.TheVariants as deed
 use Rattle.link_reach.specs.declared.deeds.DialFault.{DialFault}
 use Rattle.link_reach.specs.declared.deeds.DialFault.TheVariants as dial_fault
 use Rattle.link_reach.specs.Deeds.{Gains}
-use Rattle.link_exchange.specs.declared.asked.Asking.{Asking}
+use Rattle.link_exchange.specs.Asked.{Asked}
 use Rattle.link_exchange.specs.declared.ends.AskEnd.{AskEnd}
 use Rattle.link_exchange.specs.declared.ends.AskEnd.TheVariants.{Ended, Long, LinkFault, WriteFault, Memory}
 use Rattle.link_exchange.specs.Limits.{most_of_reply, most_of_take, most_of_link}
@@ -78,7 +78,7 @@ PutsLines end all written written' faults faults' result =
     LinesPut end all written written' faults faults' result ⊎ LinesBroke all written written' faults faults' result
 
 -- all whole messages held were passed on, and the call goes on
-pub record PassesOn (asking : Asking) (index index' : ℕ) (old new : Unread) (written written' : Option (List ℕ)) : Type 0 where
+pub record PassesOn (asking : Asked) (index index' : ℕ) (old new : Unread) (written written' : Option (List ℕ)) : Type 0 where
   pub payloads : List (List ℕ)
   pub wrote : Appends written written' (lines asking.mark payloads)
   pub whole : old.held ≡ flat_map ended payloads ++ new.held
@@ -86,16 +86,16 @@ pub record PassesOn (asking : Asking) (index index' : ℕ) (old new : Unread) (w
   pub same : new.taken ≡ old.taken
   pub settled : IsSettled new.held
   pub on : (total : ℕ) (bytes : List ℕ)
-      → taken_on asking.more total index (old.held ++ bytes) ≡ takes payloads (taken_on asking.more total index' (new.held ++ bytes))
+      → taken_on asking total index (old.held ++ bytes) ≡ takes payloads (taken_on asking total index' (new.held ++ bytes))
 
 -- the call ended with what is held
-pub record PassEnds (asking : Asking) (index : ℕ) (old new : Unread) (written written' : Option (List ℕ)) (end : AskEnd) : Type 0 where
+pub record PassEnds (asking : Asked) (index : ℕ) (old new : Unread) (written written' : Option (List ℕ)) (end : AskEnd) : Type 0 where
   pub printed : List ℕ
   pub wrote : Appends written written' printed
   pub same : new.taken ≡ old.taken
-  pub prints : (total : ℕ) (bytes : List ℕ) → Prints asking.mark end printed (taken_on asking.more total index (old.held ++ bytes))
+  pub prints : (total : ℕ) (bytes : List ℕ) → Prints asking.mark end printed (taken_on asking total index (old.held ++ bytes))
   pub behind : IsLast end → (total : ℕ) (bytes : List ℕ)
-      → old.held ≡ flat_map ended (taken_on asking.more total index (old.held ++ bytes)).payloads ++ new.held
+      → old.held ≡ flat_map ended (taken_on asking total index (old.held ++ bytes)).payloads ++ new.held
   pub own : IsOwn end
 
 -- more was taken from the link and is held

@@ -1,14 +1,15 @@
 -- What one call takes from the bytes of its link: the payloads that are passed on, and how the call ends (varlink.org,
 -- "Method Call": replies come in the order of the calls, a `oneway` call gets none, and only a call with `more` gets
 -- several, of which each but the last carries `continues`).
-use Rattle.std.specs.Prelude.{ℕ, ◌+◌, ◌==◌, nat_lt, List, [], ◌∷◌, ◌++◌, length, Bool, true, if◌then◌else◌, Option, None, Some, Result, Ok, Err}
+use Rattle.std.specs.Prelude.{ℕ, ◌+◌, ◌==◌, nat_lt, List, [], ◌∷◌, ◌++◌, length, Bool, if◌then◌else◌, ◌&&◌, not, is_none, Option, None, Some, Result, Ok, Err}
 use Rattle.std.specs.List.{flat_map}
 use Rattle.message_frame.specs.Pieces.{pieces}
 use Rattle.call_form.specs.declared.Reply.{Reply}
 use Rattle.caller_form.specs.declared.faults.ReplyFault.{ReplyFault}
 use Rattle.caller_form.specs.ReplyOf.{reply_of}
+use Rattle.link_exchange.specs.Asked.{Asked, Reading}
 use Rattle.link_exchange.specs.declared.ends.AskEnd.{AskEnd}
-use Rattle.link_exchange.specs.declared.ends.AskEnd.TheVariants.{Done, ErrorReply, NotReply, Continues, Ended, TooLong, Long}
+use Rattle.link_exchange.specs.declared.ends.AskEnd.TheVariants.{Done, ErrorReply, NotReply, Continues, Ended, TooLong, IllTyped, Long}
 use Rattle.link_exchange.specs.declared.verdicts.Verdict.{Verdict}
 use Rattle.link_exchange.specs.declared.verdicts.Verdict.TheVariants.{Goes, Last, Astray}
 use Rattle.link_exchange.specs.Limits.{most_of_reply, most_of_link}
@@ -30,23 +31,33 @@ abbrev pub last_end : ℕ → Option (List ℕ) → AskEnd
 last_end index None = Done (index + 1)
 last_end index (Some name) = ErrorReply name
 
--- a reply that says that another follows may do so only where the call asked for more and it is no error
-abbrev pub going_on : Bool → ℕ → Option (List ℕ) → Verdict
-going_on true index None = Goes
-going_on more index error = Astray (Continues index)
+-- a reply says that another follows, though it is an error or the call did not ask for more
+abbrev pub goes_astray : Bool → Reply → Bool
+goes_astray more reply = reply.continues && not (more && is_none reply.error)
 
-abbrev pub by_reply : Bool → ℕ → Reply → Verdict
-by_reply more index reply = if reply.continues then going_on more index reply.error else Last (last_end index reply.error)
+-- the first field of a reply that does not read; nothing is read of an error
+abbrev pub field_of : Reading → Reply → Option (List ℕ) → Option (List ℕ)
+field_of unread reply None = unread reply
+field_of unread reply (Some name) = None
 
-abbrev pub by_reading : Bool → ℕ → Result Reply ReplyFault → Verdict
-by_reading more index (Ok reply) = by_reply more index reply
-by_reading more index (Err fault) = Astray (NotReply index fault)
+abbrev pub by_field : ℕ → Reply → Option (List ℕ) → Verdict
+by_field index reply None = if reply.continues then Goes else Last (last_end index reply.error)
+by_field index reply (Some name) = Astray (IllTyped index name)
+
+abbrev pub by_reply : Asked → ℕ → Reply → Verdict
+by_reply asked index reply =
+    if goes_astray asked.more reply then Astray (Continues index)
+    else by_field index reply (field_of asked.unread reply reply.error)
+
+abbrev pub by_reading : Asked → ℕ → Result Reply ReplyFault → Verdict
+by_reading asked index (Ok reply) = by_reply asked index reply
+by_reading asked index (Err fault) = Astray (NotReply index fault)
 
 -- what is made of the payload of this index
-abbrev pub judged : Bool → ℕ → List ℕ → Verdict
-judged more index payload =
+abbrev pub judged : Asked → ℕ → List ℕ → Verdict
+judged asked index payload =
     if nat_lt most_of_reply (length payload) then Astray (TooLong index)
-    else by_reading more index (reply_of payload)
+    else by_reading asked index (reply_of payload)
 
 -- a reply that goes on is passed on, and so is the last one, an error too. One that is astray is not
 abbrev pub by_verdict : List ℕ → Verdict → Taken → Taken
@@ -63,18 +74,18 @@ abbrev pub at_rest : ℕ → ℕ → List ℕ → AskEnd
 at_rest total index rest = if nat_lt most_of_reply (length rest) then TooLong index else at_end total index
 
 -- through whole messages, of which the first has this index, and then the rest
-unfoldable pub taken_of : Bool → ℕ → ℕ → List (List ℕ) → List ℕ → Taken
-taken_of more total index [] rest = takes_none (at_rest total index rest)
-taken_of more total index (payload ∷ payloads) rest =
-    by_verdict payload (judged more index payload) (taken_of more total (index + 1) payloads rest)
+unfoldable pub taken_of : Asked → ℕ → ℕ → List (List ℕ) → List ℕ → Taken
+taken_of asked total index [] rest = takes_none (at_rest total index rest)
+taken_of asked total index (payload ∷ payloads) rest =
+    by_verdict payload (judged asked index payload) (taken_of asked total (index + 1) payloads rest)
 
 -- on from the message of this index, through these bytes, which are the last of `total` that were taken from the link
-abbrev pub taken_on : Bool → ℕ → ℕ → List ℕ → Taken
-taken_on more total index bytes = taken_of more total index (pieces bytes).payloads (pieces bytes).rest
+abbrev pub taken_on : Asked → ℕ → ℕ → List ℕ → Taken
+taken_on asked total index bytes = taken_of asked total index (pieces bytes).payloads (pieces bytes).rest
 
 -- what a call takes of these bytes
-abbrev pub taken : Bool → Bool → ℕ → List ℕ → Taken
-taken oneway more total bytes = if oneway then takes_none (Done 0) else taken_on more total 0 bytes
+abbrev pub taken : Asked → ℕ → List ℕ → Taken
+taken asked total bytes = if asked.oneway then takes_none (Done 0) else taken_on asked total 0 bytes
 
 -- a payload as it is passed on: as it came, with a mark behind it
 abbrev pub marked : ℕ → List ℕ → List ℕ

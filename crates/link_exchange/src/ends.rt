@@ -38,6 +38,13 @@ pub enum AskEnd {
         /// The index.
         index: u64,
     },
+    /// The reply of this index, which is no error, does not read by what replies are asked to be.
+    IllTyped {
+        /// The index.
+        index: u64,
+        /// Its first field that does not read.
+        field: Text,
+    },
     /// 2^40 bytes were taken from the link.
     Long,
     /// The reach failed.

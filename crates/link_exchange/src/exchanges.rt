@@ -5,6 +5,7 @@ ghost use Rattle.link_reach.specs.Deeds.{CountsFault};
 ghost use Rattle.link_reach.specs.Links.{AsBefore, OthersAsBefore};
 ghost use Rattle.link_reach.specs.Worlds.{left_of, spot, sends};
 ghost use Rattle.link_reach.specs.declared.deeds.LinkState.TheVariants.{Open};
+ghost use Rattle.link_exchange.specs.Asked.{asked};
 ghost use Rattle.link_exchange.specs.Exchanges.{Took, Exchanged, ExchangedIn, IsTold};
 ghost use Rattle.link_exchange.specs.Passing.{SendsAll, LinkFaults, WriteFaults};
 ghost use Rattle.link_exchange.specs.Stands.{stand};
@@ -12,6 +13,7 @@ ghost use Rattle.link_exchange.specs.Stands.{stand};
 use crate::asked::Asking;
 use crate::ends::AskEnd;
 use crate::inboxes::{Inbox, end_of_fault};
+use crate::screens::Screen;
 use link_port::Sink;
 use link_reach::{DialFault, LinkNo, Reach};
 use std::alloc::Global;
@@ -44,17 +46,18 @@ fn send_all<R: Reach>(
 }
 
 /// Takes the replies of a call, and passes each on before more bytes are awaited.
-fn take_replies<R: Reach, K: Sink>(
+fn take_replies<R: Reach, S: Screen, K: Sink>(
     alloc: Global,
     reach: &mut R,
     link: LinkNo,
     asking: Asking,
+    screen: &S,
     inbox: &mut Inbox,
     sink: &mut K,
 ) -> AskEnd
     requires open { R.state reach.old link.0 ≡ Open }
     requires unfinished { K.finished sink.old ≡ false }
-    ensures took { Took asking link.0
+    ensures took { Took (asked asking (S.unread screen.now)) link.0
         (stand (R.log reach.old) (left_of (R.leads reach.old link.0)) (K.written sink.old) inbox.old)
         (stand (R.log reach.new) (left_of (R.leads reach.new link.0)) (K.written sink.new) inbox.new) result }
     ensures link_faults { LinkFaults result (R.faults reach.old) (R.faults reach.new) }
@@ -72,7 +75,7 @@ fn take_replies<R: Reach, K: Sink>(
     let _taken = inbox.taken();
     let mut index = 0;
     'takes: loop {
-        if let Some(end) = inbox.pass_on(alloc, asking, &mut index, sink) {
+        if let Some(end) = inbox.pass_on(alloc, asking, screen, &mut index, sink) {
             return end;
         }
         if let Some(end) = inbox.take_more(alloc, reach, link, index) {
@@ -86,24 +89,26 @@ fn take_replies<R: Reach, K: Sink>(
 /// Call").
 ///
 /// An error is passed on and ends the call. A reply that says that another follows, though it is an
-/// error or the call did not ask for more, is not passed on. A `oneway` call takes nothing. All
+/// error or the call did not ask for more, is not passed on, and neither is one without error that does
+/// not read by the screen; either ends the call. A `oneway` call takes nothing. All
 /// replies that are held are put to the sink before more bytes are awaited. What came behind the last
 /// reply stays in the inbox, which is that of the link. The link stays open.
-pub fn exchange<R: Reach, K: Sink>(
+pub fn exchange<R: Reach, S: Screen, K: Sink>(
     alloc: Global,
     reach: &mut R,
     link: LinkNo,
     text: &[u8],
     asking: Asking,
+    screen: &S,
     inbox: &mut Inbox,
     sink: &mut K,
 ) -> AskEnd
     requires open { R.state reach.old link.0 ≡ Open }
     requires unfinished { K.finished sink.old ≡ false }
-    ensures exchanged { Exchanged asking text.now link.0
+    ensures exchanged { Exchanged (asked asking (S.unread screen.now)) text.now link.0
         (stand (R.log reach.old) (left_of (R.leads reach.old link.0)) (K.written sink.old) inbox.old)
         (stand (R.log reach.new) (left_of (R.leads reach.new link.0)) (K.written sink.new) inbox.new) result }
-    ensures told { IsTold result → ExchangedIn R.says asking text.now inbox.old
+    ensures told { IsTold result → ExchangedIn R.says (asked asking (S.unread screen.now)) text.now inbox.old
         (spot (R.world reach.old) (R.leads reach.old link.0)) (R.world reach.new)
         (K.written sink.old) (K.written sink.new) result }
     ensures link_faults { LinkFaults result (R.faults reach.old) (R.faults reach.new) }
@@ -122,5 +127,5 @@ pub fn exchange<R: Reach, K: Sink>(
     if asking.oneway {
         return AskEnd::Done { replies: 0 };
     }
-    take_replies(alloc, reach, link, asking, inbox, sink)
+    take_replies(alloc, reach, link, asking, screen, inbox, sink)
 }

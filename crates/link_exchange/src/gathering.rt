@@ -1,11 +1,13 @@
 // Replies are gathered from the bytes held, as they are passed on.
 ghost use Rattle.std.specs.Prelude.{◌≡◌, ◌+◌, ◌^◌, ◌<◌, ◌≤◌, ◌++◌, [], IfNone, IfSome, OnOk, OnErr, length};
+ghost use Rattle.link_exchange.specs.Asked.{asked};
 ghost use Rattle.link_exchange.specs.Gathering.{PutsLine, Steps, Gathers, GatherEnds, IsSettled, WaitsOn};
 ghost use Rattle.link_exchange.specs.Limits.{most_of_reply};
 ghost use Rattle.link_exchange.specs.Taken.{marked};
 
 use crate::asked::Asking;
 use crate::ends::AskEnd;
+use crate::screens::Screen;
 use crate::verdicts::{Verdict, judge};
 use caller_form::REPLY_LIMIT;
 use link_port::Memory;
@@ -37,11 +39,18 @@ fn append(lines: &mut Vec<u8>, payload: &[u8], mark: u8) -> Result<(), Memory>
 }
 
 /// Judges a payload, and puts it behind the lines where it is passed on.
-fn put_line(alloc: Global, asking: Asking, index: u64, payload: &[u8], lines: &mut Vec<u8>) -> Step
+fn put_line<S: Screen>(
+    alloc: Global,
+    asking: Asking,
+    screen: &S,
+    index: u64,
+    payload: &[u8],
+    lines: &mut Vec<u8>,
+) -> Step
     requires { index + 1 < 2 ^ 64 }
-    ensures { PutsLine asking index payload.now lines.old.items lines.new.items result }
+    ensures { PutsLine (asked asking (S.unread screen.now)) index payload.now lines.old.items lines.new.items result }
 {
-    match judge(alloc, asking.more, index, payload) {
+    match judge(alloc, asking, screen, index, payload) {
         Verdict::Goes => match append(lines, payload, asking.mark) {
             Ok(()) => Step::Passed,
             Err(Memory) => Step::Ends(AskEnd::Memory),
@@ -69,9 +78,10 @@ fn wait(index: u64, held: &[u8]) -> Step
 }
 
 /// Judges the first message held, and puts it behind the lines where it is passed on.
-fn gather_one(
+fn gather_one<S: Screen>(
     alloc: Global,
     asking: Asking,
+    screen: &S,
     index: u64,
     frames: &mut Frames,
     lines: &mut Vec<u8>,
@@ -79,19 +89,20 @@ fn gather_one(
     requires index { index + 1 < 2 ^ 64 }
     requires room { most_of_reply ≤ frames.old.limit }
     ensures limit { frames.new.limit ≡ frames.old.limit }
-    ensures step { Steps asking index frames.old frames.new lines.old.items lines.new.items result }
+    ensures step { Steps (asked asking (S.unread screen.now)) index frames.old frames.new lines.old.items lines.new.items result }
 {
     match frames.next() {
-        Next::Payload(payload) => put_line(alloc, asking, index, payload, lines),
+        Next::Payload(payload) => put_line(alloc, asking, screen, index, payload, lines),
         Next::TooLong => Step::Ends(AskEnd::TooLong { index }),
         Next::NeedMore => wait(index, frames.rest()),
     }
 }
 
 /// Gathers all whole messages held, and tells whether the call ended.
-pub fn gather(
+pub fn gather<S: Screen>(
     alloc: Global,
     asking: Asking,
+    screen: &S,
     index: &mut u64,
     frames: &mut Frames,
     lines: &mut Vec<u8>,
@@ -100,14 +111,14 @@ pub fn gather(
     requires room { most_of_reply ≤ frames.old.limit }
     ensures limit { frames.new.limit ≡ frames.old.limit }
     ensures shorter { length frames.new.bytes ≤ length frames.old.bytes }
-    ensures gathered { IfNone result (Gathers asking index.old index.new frames.old.bytes
+    ensures gathered { IfNone result (Gathers (asked asking (S.unread screen.now)) index.old index.new frames.old.bytes
         frames.new.bytes lines.old.items lines.new.items) }
     ensures settled { IfNone result (IsSettled frames.new.bytes) }
-    ensures ended { IfSome result (GatherEnds asking index.old frames.old.bytes frames.new.bytes
+    ensures ended { IfSome result (GatherEnds (asked asking (S.unread screen.now)) index.old frames.old.bytes frames.new.bytes
         lines.old.items lines.new.items) }
 {
     'messages: loop {
-        match gather_one(alloc, asking, *index, frames, lines) {
+        match gather_one(alloc, asking, screen, *index, frames, lines) {
             Step::Passed => *index += 1,
             Step::Ends(end) => return Some(end),
             Step::NeedMore => return None,

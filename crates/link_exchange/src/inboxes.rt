@@ -5,6 +5,7 @@ ghost use Rattle.link_reach.specs.Deeds.{CountsFault, Gains, done, taken};
 ghost use Rattle.link_reach.specs.Links.{AsBefore, OthersAsBefore};
 ghost use Rattle.link_reach.specs.Worlds.{left_of};
 ghost use Rattle.link_reach.specs.declared.deeds.LinkState.TheVariants.{Open};
+ghost use Rattle.link_exchange.specs.Asked.{asked};
 ghost use Rattle.link_exchange.specs.Limits.{most_of_reply, most_of_link};
 ghost use Rattle.link_exchange.specs.Passing.{PassesOn, PassEnds, PutsLines, TakesMore, TakesNoMore, LinkFaults, WriteFaults, link_end};
 ghost use Rattle.link_exchange.specs.Stands.{stand};
@@ -12,6 +13,7 @@ ghost use Rattle.link_exchange.specs.Stands.{stand};
 use crate::asked::Asking;
 use crate::ends::AskEnd;
 use crate::gathering::gather;
+use crate::screens::Screen;
 use caller_form::REPLY_LIMIT;
 use link_port::{Memory, Sink, put_all};
 use link_reach::{DialFault, LinkNo, Reach};
@@ -79,18 +81,19 @@ impl Inbox {
     }
 
     /// Passes on all replies held, in one piece, and tells whether the call ended with them.
-    pub(crate) fn pass_on<K: Sink>(
+    pub(crate) fn pass_on<S: Screen, K: Sink>(
         &mut self,
         alloc: Global,
         asking: Asking,
+        screen: &S,
         index: &mut u64,
         sink: &mut K,
     ) -> Option<AskEnd>
         requires unfinished { K.finished sink.old ≡ false }
         requires index { index.old + length self.old.held ≤ most_of_link }
-        ensures passed { IfNone result (PassesOn asking index.old index.new self.old self.new
+        ensures passed { IfNone result (PassesOn (asked asking (S.unread screen.now)) index.old index.new self.old self.new
             (K.written sink.old) (K.written sink.new)) }
-        ensures ended { IfSome result (PassEnds asking index.old self.old self.new
+        ensures ended { IfSome result (PassEnds (asked asking (S.unread screen.now)) index.old self.old self.new
             (K.written sink.old) (K.written sink.new)) }
         ensures faults { MatchOption result (K.write_faults sink.new ≡ K.write_faults sink.old)
             (λ end. WriteFaults end (K.write_faults sink.old) (K.write_faults sink.new)) }
@@ -99,7 +102,14 @@ impl Inbox {
         ensures unfinished { K.finished sink.new ≡ false }
     {
         self.lines.clear();
-        let end = gather(alloc, asking, index, &mut self.frames, &mut self.lines);
+        let end = gather(
+            alloc,
+            asking,
+            screen,
+            index,
+            &mut self.frames,
+            &mut self.lines,
+        );
         put_lines(end, self.lines.as_slice(), sink)
     }
 

@@ -6,9 +6,11 @@ mod ends;
 mod exchanges;
 mod gathering;
 mod inboxes;
+mod screens;
 mod verdicts;
 
 pub use asked::Asking;
 pub use ends::AskEnd;
 pub use exchanges::exchange;
 pub use inboxes::{Inbox, MOST_OF_LINK, TAKE};
+pub use screens::{Misread, Screen, Unscreened};

@@ -1,10 +1,13 @@
 // What is made of one message.
-ghost use Rattle.std.specs.Prelude.{◌≡◌, ◌<◌, ◌+◌, ◌^◌};
-ghost use Rattle.caller_form.specs.ReplyOf.{reply_of};
-ghost use Rattle.link_exchange.specs.Taken.{judged, by_reply, going_on, last_end};
-ghost use Rattle.link_exchange.specs.Gathering.{Judges, IsOfKind, IsLast, IsAstray, fault_end};
+ghost use Rattle.std.specs.Prelude.{◌≡◌, ◌<◌, ◌+◌, ◌^◌, None};
+ghost use Rattle.call_form.specs.CallOf.{IsObject};
+ghost use Rattle.link_exchange.specs.Asked.{asked};
+ghost use Rattle.link_exchange.specs.Taken.{judged, goes_astray, field_of, by_field, by_reply, last_end};
+ghost use Rattle.link_exchange.specs.Gathering.{Judges, IsOfKind, IsLast, IsAstray, fault_end, misread_end, TellsMisread};
 
+use crate::asked::Asking;
 use crate::ends::AskEnd;
+use crate::screens::{Misread, Screen};
 use call_form::Reply;
 use caller_form::{REPLY_LIMIT, ReplyFault, read_reply};
 use link_port::Text;
@@ -22,24 +25,71 @@ pub enum Verdict {
 }
 
 /// Judges the payload of this index.
-pub fn judge(alloc: Global, more: bool, index: u64, payload: &[u8]) -> Verdict
+pub fn judge<S: Screen>(
+    alloc: Global,
+    asking: Asking,
+    screen: &S,
+    index: u64,
+    payload: &[u8],
+) -> Verdict
     requires { index + 1 < 2 ^ 64 }
-    ensures verdict { Judges result (judged more index payload.now) }
+    ensures verdict { Judges result (judged (asked asking (S.unread screen.now)) index payload.now) }
     ensures kind { IsOfKind result }
 {
     if payload.len() as u64 > REPLY_LIMIT {
         return Verdict::Astray(AskEnd::TooLong { index });
     }
     match read_reply(alloc, payload) {
-        Ok(reply) => weigh(more, index, reply),
+        Ok(reply) => weigh(alloc, asking, screen, index, reply),
         Err(fault) => Verdict::Astray(end_of_fault(index, fault)),
     }
 }
 
 /// Judges a reply.
-fn weigh(more: bool, index: u64, reply: Reply) -> Verdict
+fn weigh<S: Screen>(alloc: Global, asking: Asking, screen: &S, index: u64, reply: Reply) -> Verdict
+    requires index { index + 1 < 2 ^ 64 }
+    requires parameters { IsObject reply.parameters }
+    ensures verdict { Judges result (by_reply (asked asking (S.unread screen.now)) index reply) }
+    ensures kind { IsOfKind result }
+{
+    if is_astray(asking.more, &reply) {
+        drop(reply);
+        return Verdict::Astray(AskEnd::Continues { index });
+    }
+    match misread(alloc, screen, &reply) {
+        None => passed(index, reply),
+        Some(misread) => {
+            drop(reply);
+            Verdict::Astray(end_of_misread(index, misread))
+        }
+    }
+}
+
+/// Whether a reply says that another follows, though none may.
+fn is_astray(more: bool, reply: &Reply) -> bool
+    ensures { result ≡ goes_astray more reply.now }
+{
+    reply.continues && !(more && reply.error.is_none())
+}
+
+/// Why a reply does not read; nothing is read of an error.
+fn misread<S: Screen>(alloc: Global, screen: &S, reply: &Reply) -> Option<Misread>
+    requires { IsObject reply.now.parameters }
+    ensures { TellsMisread result (field_of (S.unread screen.now) reply.now reply.now.error) }
+{
+    match &reply.error {
+        Some(_) => None,
+        None => match screen.check(alloc, reply) {
+            Ok(()) => None,
+            Err(misread) => Some(misread),
+        },
+    }
+}
+
+/// What is made of a reply that is passed on.
+fn passed(index: u64, reply: Reply) -> Verdict
     requires { index + 1 < 2 ^ 64 }
-    ensures verdict { result ≡ by_reply more index reply }
+    ensures verdict { result ≡ by_field index reply None }
     ensures kind { IsOfKind result }
 {
     let Reply {
@@ -49,23 +99,10 @@ fn weigh(more: bool, index: u64, reply: Reply) -> Verdict
     } = reply;
     drop(parameters);
     if continues {
-        go_on(more, index, error)
-    } else {
-        Verdict::Last(end_of_last(index, error))
-    }
-}
-
-/// Judges a reply that says that another follows.
-fn go_on(more: bool, index: u64, error: Option<Text>) -> Verdict
-    ensures verdict { result ≡ going_on more index error }
-    ensures kind { IsOfKind result }
-{
-    let fits = more && error.is_none();
-    drop(error);
-    if fits {
+        drop(error);
         Verdict::Goes
     } else {
-        Verdict::Astray(AskEnd::Continues { index })
+        Verdict::Last(end_of_last(index, error))
     }
 }
 
@@ -89,5 +126,16 @@ fn end_of_fault(index: u64, fault: ReplyFault) -> AskEnd
     match fault {
         ReplyFault::Memory => AskEnd::Memory,
         _ => AskEnd::NotReply { index, fault },
+    }
+}
+
+/// How a reply that does not read ends the call.
+fn end_of_misread(index: u64, misread: Misread) -> AskEnd
+    ensures end { result ≡ misread_end index misread }
+    ensures kind { IsAstray result }
+{
+    match misread {
+        Misread::Field(field) => AskEnd::IllTyped { index, field },
+        Misread::Memory => AskEnd::Memory,
     }
 }

@@ -2,6 +2,7 @@ use Rattle.std.proofs.Common.{◌≡◌, ◌-◌, false}
 use Rattle.link_port.specs.Flow.{IsAsBefore}
 use Rattle.link_reach.specs.Links.{AsBefore, OthersAsBefore}
 use Rattle.link_reach.specs.Worlds.{left_of}
+use Rattle.link_exchange.specs.Asked.{asked}
 use Rattle.link_exchange.specs.Exchanges.{Taking}
 use Rattle.link_exchange.specs.Limits.{most_of_link}
 use Rattle.link_exchange.specs.Stands.{stand}
@@ -12,7 +13,7 @@ invariant-takes g l =
     let reach = g.R.Reach in
     let ends = g.K.Ends in
     record {
-      taking : Taking l.asking l.link.0 l.index
+      taking : Taking (asked l.asking (g.S.Screen.unread l.screen)) l.link.0 l.index
           (stand (reach.log l.initial.reach) (left_of (reach.leads l.initial.reach l.link.0)) (ends.written l.initial.sink) l.initial.inbox)
           (stand (reach.log l.reach) (left_of (reach.leads l.reach l.link.0)) (ends.written l.sink) l.inbox);
       link_faults : reach.faults l.reach ≡ reach.faults l.initial.reach;
