@@ -69,6 +69,10 @@ fn answer_of(alloc: Global, end: AskEnd, printed: &[u8]) -> Result<Address, Reso
         AskEnd::TooLong { .. } => bad(ResolveFault::TooLong),
         AskEnd::Long => bad(ResolveFault::Long),
         AskEnd::LinkFault => Err(ResolveEnd::LinkFault),
+        AskEnd::IllTyped { field, .. } => {
+            drop(field);
+            Err(ResolveEnd::Memory)
+        }
         AskEnd::WriteFault | AskEnd::Memory => Err(ResolveEnd::Memory),
     }
 }

@@ -101,6 +101,7 @@ fn is_end(end: &AskEnd, want: (&str, u64)) -> bool {
         AskEnd::Continues { index } => want == ("continues", *index),
         AskEnd::Ended { index } => want == ("ended", *index),
         AskEnd::TooLong { index } => want == ("too long", *index),
+        AskEnd::IllTyped { index, .. } => want == ("ill typed", *index),
         AskEnd::Long => want == ("long", 0),
         AskEnd::LinkFault => want == ("link fault", 0),
         AskEnd::WriteFault => want == ("write fault", 0),

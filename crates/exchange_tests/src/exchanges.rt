@@ -2,14 +2,32 @@
 ghost use Rattle.std.specs.Prelude.{◌≡◌};
 ghost use Rattle.link_reach.specs.declared.deeds.LinkState.TheVariants.{Open};
 
+use call_form::Reply;
 use link_doors::Address;
-use link_exchange::{AskEnd, Asking, Inbox, exchange};
+use link_exchange::{AskEnd, Asking, Inbox, Misread, Screen, exchange};
 use link_port::{List, MemSink, Memory, Text};
 use link_reach::{Deed, LinkNo, MemReach, Reach};
 use std::alloc::Global;
 
 /// The call that is sent.
 const CALL: &[u8] = b"{}\0";
+
+// A reply reads unless it has a parameter `bad`.
+struct NoneBad;
+
+impl Screen for NoneBad {
+    ghost use Rattle.std.specs.Prelude.{codes, is_some, option_map};
+    ghost use Rattle.serde_json.specs.Find.{get};
+
+    ghost unread = { λ _ reply. option_map (λ _. codes "bad") (get (codes "bad") reply.parameters) };
+
+    fn check(&self, alloc: Global, reply: &Reply) -> Result<(), Misread> {
+        match reply.parameters.inner().get("bad") {
+            Some(_) => Err(Misread::Field(Text::of(alloc, "bad")?)),
+            None => Ok(()),
+        }
+    }
+}
 
 fn copied(alloc: Global, bytes: &[u8]) -> Result<List<u8>, Memory> {
     match Vec::from_slice(alloc, bytes) {
@@ -62,6 +80,8 @@ fn is_end(end: &AskEnd, want: (&str, u64)) -> bool {
         AskEnd::Continues { index } => want == ("continues", *index),
         AskEnd::Ended { index } => want == ("ended", *index),
         AskEnd::TooLong { index } => want == ("too long", *index),
+        AskEnd::IllTyped { index, field } => field.as_str() == "bad"
+            && want == ("ill typed", *index),
         AskEnd::Long => want == ("long", 0),
         AskEnd::LinkFault => want == ("link fault", 0),
         AskEnd::WriteFault => want == ("write fault", 0),
@@ -102,7 +122,7 @@ fn is_passed<R: Reach>(
     let Ok(mut sink) = MemSink::new(alloc, room, List::new(alloc), List::new(alloc)) else {
         return false;
     };
-    let end = exchange(alloc, reach, link, CALL, asking, inbox, &mut sink);
+    let end = exchange(alloc, reach, link, CALL, asking, &NoneBad, inbox, &mut sink);
     let right = is_end(&end, (want.0, want.1)) && sink.bytes() == want.2;
     drop((end, sink));
     right
@@ -246,6 +266,54 @@ fn an_error_is_passed_on_and_ends_the_call(rt: HostRuntime) {
             ("a.E", 0, b"{\"error\":\"a.E\"}\n"),
             b"",
             &[("sent", CALL), ("took", says)]
+        )
+    );
+}
+
+#[test]
+fn a_reply_that_does_not_read_is_not_passed_on(rt: HostRuntime) {
+    let says = b"{\"continues\":true,\"parameters\":{\"a\":1}}\0{\"parameters\":{\"bad\":1}}\0{}\0";
+    assert!(rt;
+        comes_to(
+            rt.alloc(),
+            (says, &[]),
+            SEVERAL,
+            64,
+            (
+                "ill typed",
+                1,
+                b"{\"continues\":true,\"parameters\":{\"a\":1}}\n"
+            ),
+            b"{}\0",
+            &[("sent", CALL), ("took", says)]
+        )
+    );
+    let error = b"{\"error\":\"a.E\",\"parameters\":{\"bad\":1}}\0";
+    assert!(rt;
+        comes_to(
+            rt.alloc(),
+            (error, &[]),
+            ONE,
+            64,
+            (
+                "a.E",
+                0,
+                b"{\"error\":\"a.E\",\"parameters\":{\"bad\":1}}\n"
+            ),
+            b"",
+            &[("sent", CALL), ("took", error)]
+        )
+    );
+    let astray = b"{\"continues\":true,\"parameters\":{\"bad\":1}}\0";
+    assert!(rt;
+        comes_to(
+            rt.alloc(),
+            (astray, &[]),
+            ONE,
+            64,
+            ("continues", 0, b""),
+            b"",
+            &[("sent", CALL), ("took", astray)]
         )
     );
 }
