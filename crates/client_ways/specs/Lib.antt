@@ -1,0 +1,2 @@
+pub mod Unresolved
+pub mod Ways

@@ -1,0 +1,5 @@
+//! Calls by the name of an interface, over links in memory.
+#![tactic(auto)]
+
+#[cfg(test)]
+mod ways;
