@@ -1,1 +1,2 @@
 pub mod NothingDone
+pub mod OneLine

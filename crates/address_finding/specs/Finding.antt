@@ -5,6 +5,7 @@ use Rattle.caller_form.specs.ReplyOf.{reply_of}
 use Rattle.call_form.specs.declared.Reply.{Reply}
 use Rattle.caller_form.specs.declared.faults.ReplyFault.{ReplyFault}
 use Rattle.link_doors.specs.declared.addresses.Address.{Address}
+use Rattle.link_port.specs.Faults.{Rises}
 use Rattle.link_reach.specs.declared.deeds.Deed.{Deed}
 use Rattle.link_reach.specs.declared.deeds.Deed.TheVariants as deed
 use Rattle.link_reach.specs.declared.deeds.LinkState.{LinkState}
@@ -42,22 +43,36 @@ abbrev pub Tells : Result Address ResolveEnd → Result Address ResolveEnd → T
 Tells (Err Memory) there = ⊤
 Tells told there = told ≡ there
 
--- the answer is what the payload tells that was passed on as a line
+-- where the call ended with its last reply, this holds; else the answer is what the end tells
+abbrev pub AnswersBy : Type 0 → Result Address ResolveEnd → AskEnd → Type 0
+AnswersBy Holds told (ask.Done replies) = Holds
+AnswersBy Holds told (ask.ErrorReply name) = Holds
+AnswersBy Holds told (ask.NotReply index found) = told ≡ Err (Bad (fault.NotReply found))
+AnswersBy Holds told (ask.Continues index) = told ≡ Err (Bad fault.Continues)
+AnswersBy Holds told (ask.Ended index) = told ≡ Err (Bad fault.Ended)
+AnswersBy Holds told (ask.TooLong index) = told ≡ Err (Bad fault.TooLong)
+AnswersBy Holds told (ask.IllTyped index field) = ⊥
+AnswersBy Holds told ask.Long = told ≡ Err (Bad fault.Long)
+AnswersBy Holds told ask.LinkFault = told ≡ Err LinkFault
+AnswersBy Holds told ask.WriteFault = told ≡ Err Memory
+AnswersBy Holds told ask.Memory = told ≡ Err Memory
+
+-- these are one payload, passed on as a line, and the answer is what it tells
+abbrev pub TellsLine : Result Address ResolveEnd → List ℕ → Type 0
+TellsLine told printed = (payload : List ℕ) × (printed ≡ payload ++ 10 ∷ []) × Tells told (told_by payload)
+
+-- the answer where the call ended so, and passed on this
+abbrev pub Answers : Result Address ResolveEnd → AskEnd → List ℕ → Type 0
+Answers told end printed = AnswersBy (TellsLine told printed) told end
+
+-- the answer is what these tell, where they are one payload, passed on as a line
 abbrev pub TellsIn : Result Address ResolveEnd → List ℕ → Type 0
 TellsIn told printed = (payload : List ℕ) → printed ≡ payload ++ 10 ∷ [] → Tells told (told_by payload)
 
--- the answer where the call ended so, and passed on these lines
-abbrev pub Answers : Result Address ResolveEnd → AskEnd → List ℕ → Type 0
-Answers told (ask.Done replies) printed = TellsIn told printed
-Answers told (ask.ErrorReply name) printed = TellsIn told printed
-Answers told (ask.NotReply index found) printed = told ≡ Err (Bad (fault.NotReply found))
-Answers told (ask.Continues index) printed = told ≡ Err (Bad fault.Continues)
-Answers told (ask.Ended index) printed = told ≡ Err (Bad fault.Ended)
-Answers told (ask.TooLong index) printed = told ≡ Err (Bad fault.TooLong)
-Answers told ask.Long printed = told ≡ Err (Bad fault.Long)
-Answers told ask.LinkFault printed = told ≡ Err LinkFault
-Answers told ask.WriteFault printed = told ≡ Err Memory
-Answers told ask.Memory printed = told ≡ Err Memory
+-- the count of the reach's faults rose exactly where the answer is that fault
+abbrev pub CountsFaults : Result Address ResolveEnd → ℕ → ℕ → Type 0
+CountsFaults (Err LinkFault) before now = Rises before now
+CountsFaults told before now = now ≡ before
 
 -- what a question changes: what was done, how many links were opened, and what became of each
 pub record Links : Type 0 where

@@ -1,6 +1,8 @@
 // The question for the address of an interface.
-ghost use Rattle.std.specs.Prelude.{◌≡◌, Err, [], Some};
-ghost use Rattle.address_finding.specs.Finding.{Finds, Answers, TellsIn, Tells, told_of};
+ghost use Rattle.std.specs.Prelude.{◌≡◌, ℕ, Err, [], Some};
+ghost use Rattle.link_exchange.specs.OneReply.{IsWellTyped};
+ghost use Rattle.link_exchange.specs.Passing.{LinkFaults};
+ghost use Rattle.address_finding.specs.Finding.{Finds, AnswersBy, TellsIn, CountsFaults, told_of};
 
 use crate::ends::{ResolveEnd, ResolveFault};
 use caller_form::{REPLY_LIMIT, ReplyFault, read_reply};
@@ -33,6 +35,7 @@ pub fn resolve<R: Reach>(
           state = R.state reach.new;
         })
         result }
+    ensures faults { CountsFaults result (R.faults reach.old) (R.faults reach.new) }
     ensures freed { R.freed reach.new ≡ R.freed reach.old }
 {
     let Ok(call) = resolve_call(alloc, interface) else {
@@ -55,7 +58,9 @@ pub fn resolve<R: Reach>(
 
 // What a call that ended so has told, where it passed on these lines.
 fn answer_of(alloc: Global, end: AskEnd, printed: &[u8]) -> Result<Address, ResolveEnd>
-    ensures { Answers result end printed.now }
+    requires { IsWellTyped end }
+    ensures answers { AnswersBy (TellsIn result printed.now) result end }
+    ensures faults { (before now : ℕ) → LinkFaults end before now → CountsFaults result before now }
 {
     match end {
         AskEnd::Done { .. } => told_in(alloc, printed),
@@ -69,10 +74,7 @@ fn answer_of(alloc: Global, end: AskEnd, printed: &[u8]) -> Result<Address, Reso
         AskEnd::TooLong { .. } => bad(ResolveFault::TooLong),
         AskEnd::Long => bad(ResolveFault::Long),
         AskEnd::LinkFault => Err(ResolveEnd::LinkFault),
-        AskEnd::IllTyped { field, .. } => {
-            drop(field);
-            Err(ResolveEnd::Memory)
-        }
+        AskEnd::IllTyped { .. } => unreachable!(),
         AskEnd::WriteFault | AskEnd::Memory => Err(ResolveEnd::Memory),
     }
 }
@@ -85,7 +87,8 @@ fn bad(fault: ResolveFault) -> Result<Address, ResolveEnd>
 
 // What the line of a reply tells.
 fn told_in(alloc: Global, printed: &[u8]) -> Result<Address, ResolveEnd>
-    ensures { TellsIn result printed.now }
+    ensures tells { TellsIn result printed.now }
+    ensures faults { (count : ℕ) → CountsFaults result count count }
 {
     let [payload @ .., _] = printed else {
         return Err(ResolveEnd::Memory);
@@ -103,7 +106,8 @@ fn told_in(alloc: Global, printed: &[u8]) -> Result<Address, ResolveEnd>
 
 // The same of a reply that was read.
 fn told_of(told: Result<Address, NoAddress>) -> Result<Address, ResolveEnd>
-    ensures { result ≡ told_of told }
+    ensures told { result ≡ told_of told }
+    ensures faults { (count : ℕ) → CountsFaults result count count }
 {
     match told {
         Ok(address) => Ok(address),

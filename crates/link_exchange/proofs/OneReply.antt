@@ -1,6 +1,7 @@
 -- A call that asks for one reply passes on one at most; and where each reply reads, none is ill typed.
-use Rattle.std.proofs.Common.{◌≡◌, ℕ, ◌+◌, Bool, true, false, cond, nat_lt, List, [], ◌∷◌, length, Option, None, Some, Result, Ok, Err, refl, sym, ◌∙◌, ap, subst}
-use Rattle.std.specs.Prelude.{◌&&◌, not, is_none, ◌==◌}
+use Rattle.std.proofs.Common.{◌≡◌, ℕ, ◌+◌, Bool, true, false, cond, nat_lt, List, [], ◌∷◌, ◌++◌, length, Option, None, Some, Result, Ok, Err, refl, sym, ◌∙◌, ap, subst, inl, inr}
+use Rattle.std.proofs.lemmas.List.{append-nil}
+use Rattle.std.specs.Prelude.{◌&&◌, ◌⊎◌, not, is_none, ◌==◌}
 use Rattle.call_form.specs.declared.Reply.{Reply}
 use Rattle.caller_form.specs.declared.faults.ReplyFault.{ReplyFault}
 use Rattle.caller_form.specs.ReplyOf.{reply_of}
@@ -10,10 +11,13 @@ use Rattle.link_exchange.specs.declared.ends.AskEnd.{AskEnd}
 use Rattle.link_exchange.specs.declared.ends.AskEnd.TheVariants as ask
 use Rattle.link_exchange.specs.declared.verdicts.Verdict.{Verdict}
 use Rattle.link_exchange.specs.declared.verdicts.Verdict.TheVariants.{Goes, Last, Astray}
+use Rattle.link_exchange.specs.Exchanges.{Exchanged, CameTo, BrokeOff, IsBroken}
 use Rattle.link_exchange.specs.Gathering.{IsLast}
 use Rattle.link_exchange.specs.Limits.{most_of_reply, most_of_link}
-use Rattle.link_exchange.specs.OneReply.{IsOneReply, IsWellTyped}
-use Rattle.link_exchange.specs.Taken.{Taken, by_reading, by_field, by_verdict, goes_astray, field_of, last_end, taken_of, taken_on}
+use Rattle.link_exchange.specs.OneReply.{IsOneReply, IsWellTyped, IsLine}
+use Rattle.link_exchange.specs.Passing.{Prints}
+use Rattle.link_exchange.specs.Stands.{Stand}
+use Rattle.link_exchange.specs.Taken.{Taken, takes_none, taken, lines, by_reading, by_field, by_verdict, goes_astray, field_of, last_end, taken_of, taken_on}
 
 -- the call ended with one reply, if it ended with its last one
 abbrev EndsWithOne : Taken → Type 0
@@ -100,3 +104,71 @@ of-typed asked total index (payload ∷ payloads) rest reads =
 -- what is taken of any bytes where each reply reads
 pub well_typed : (asked : Asked) (total : ℕ) (bytes : List ℕ) → ((reply : Reply) → asked.unread reply ≡ None) → IsWellTyped (taken_on asked total 0 bytes).end
 well_typed asked total bytes reads = of-typed asked total 0 (pieces bytes).payloads (pieces bytes).rest reads
+
+-- ---- of a whole call
+
+taken-some : (asked : Asked) (total : ℕ) (bytes : List ℕ) → asked.oneway ≡ false → taken asked total bytes ≡ taken_on asked total 0 bytes
+taken-some asked total bytes is = ap (λ (b : Bool). cond b (takes_none (ask.Done 0)) (taken_on asked total 0 bytes)) is
+
+prints-last : (mark : ℕ) (end : AskEnd) (printed : List ℕ) (there : Taken) → IsLast end → Prints mark end printed there
+    → (printed ≡ lines mark there.payloads) × (end ≡ there.end)
+prints-last mark (ask.Done replies) printed there last prints = prints
+prints-last mark (ask.ErrorReply name) printed there last prints = prints
+prints-last mark end printed there last prints = elim last [ ]
+
+not-broken : (end : AskEnd) → IsLast end → IsBroken end → ⊥
+not-broken (ask.Done replies) last broken = broken
+not-broken (ask.ErrorReply name) last broken = broken
+not-broken end last broken = elim last [ ]
+
+taken-line : (asked : Asked) (total : ℕ) (bytes printed : List ℕ) (end : AskEnd) → asked.more ≡ false → IsLast end → end ≡ (taken_on asked total 0 bytes).end
+    → printed ≡ lines asked.mark (taken_on asked total 0 bytes).payloads → IsLine asked.mark printed
+taken-line asked total bytes printed end single last ends is =
+    let one = one_reply asked total bytes single (subst IsLast ends last) in
+    (one.payload, one.reply, is ∙ ap (lines asked.mark) one.one ∙ append-nil (one.payload ++ asked.mark ∷ []), one.is)
+
+comes-line : (asked : Asked) (unsent bytes : List ℕ) (total : ℕ) (fed : List (List ℕ)) (printed held : List ℕ) (end : AskEnd) → asked.oneway ≡ false → asked.more ≡ false
+    → IsLast end → (CameTo asked unsent bytes total printed held end) ⊎ (BrokeOff unsent fed printed end) → IsLine asked.mark printed
+comes-line asked unsent bytes total fed printed held end some single last (inl came) =
+    let prints = prints-last asked.mark end printed (taken_on asked total 0 bytes) last (subst (Prints asked.mark end printed) (taken-some asked total bytes some) came.prints) in
+    taken-line asked total bytes printed end single last prints.1 prints.0
+comes-line asked unsent bytes total fed printed held end some single last (inr broke) = absurd (not-broken end last broke.why)
+
+-- a call for one reply that ended with it passed on one line
+pub exchanged_line : (asked : Asked) (text : List ℕ) (link : ℕ) (old new : Stand) (end : AskEnd) (made : Exchanged asked text link old new end) → asked.oneway ≡ false
+    → asked.more ≡ false → IsLast end → IsLine asked.mark made.printed
+exchanged_line asked text link old new end made some single last = comes-line asked made.unsent _ _ made.fed made.printed _ end some single last made.comes
+
+taken-typed : (asked : Asked) (total : ℕ) (bytes : List ℕ) (oneway : Bool) → ((reply : Reply) → asked.unread reply ≡ None)
+    → IsWellTyped (cond oneway (takes_none (ask.Done 0)) (taken_on asked total 0 bytes)).end
+taken-typed asked total bytes true reads = tt
+taken-typed asked total bytes false reads = well_typed asked total bytes reads
+
+prints-typed : (mark : ℕ) (end : AskEnd) (printed : List ℕ) (there : Taken) → Prints mark end printed there → IsWellTyped there.end → IsWellTyped end
+prints-typed mark (ask.IllTyped i name) printed there prints typed = subst IsWellTyped (sym prints.1) typed
+prints-typed mark (ask.Done n) printed there prints typed = tt
+prints-typed mark (ask.ErrorReply name) printed there prints typed = tt
+prints-typed mark (ask.NotReply i fault) printed there prints typed = tt
+prints-typed mark (ask.Continues i) printed there prints typed = tt
+prints-typed mark (ask.Ended i) printed there prints typed = tt
+prints-typed mark (ask.TooLong i) printed there prints typed = tt
+prints-typed mark ask.Long printed there prints typed = tt
+prints-typed mark ask.LinkFault printed there prints typed = tt
+prints-typed mark ask.WriteFault printed there prints typed = tt
+prints-typed mark ask.Memory printed there prints typed = tt
+
+broken-typed : (end : AskEnd) → IsBroken end → IsWellTyped end
+broken-typed ask.LinkFault broken = tt
+broken-typed ask.Memory broken = tt
+broken-typed end broken = elim broken [ ]
+
+comes-typed : (asked : Asked) (unsent bytes : List ℕ) (total : ℕ) (fed : List (List ℕ)) (printed held : List ℕ) (end : AskEnd) → ((reply : Reply) → asked.unread reply ≡ None)
+    → (CameTo asked unsent bytes total printed held end) ⊎ (BrokeOff unsent fed printed end) → IsWellTyped end
+comes-typed asked unsent bytes total fed printed held end reads (inl came) =
+    prints-typed asked.mark end printed (taken asked total bytes) came.prints (taken-typed asked total bytes asked.oneway reads)
+comes-typed asked unsent bytes total fed printed held end reads (inr broke) = broken-typed end broke.why
+
+-- a call whose replies all read did not end with one that does not
+pub exchanged_typed : (asked : Asked) (text : List ℕ) (link : ℕ) (old new : Stand) (end : AskEnd) → ((reply : Reply) → asked.unread reply ≡ None)
+    → Exchanged asked text link old new end → IsWellTyped end
+exchanged_typed asked text link old new end reads made = comes-typed asked made.unsent _ _ made.fed made.printed _ end reads made.comes

@@ -1,5 +1,5 @@
 -- A call that asks for one reply.
-use Rattle.std.specs.Prelude.{◌≡◌, ℕ, List, [], ◌∷◌, Ok, ⊤}
+use Rattle.std.specs.Prelude.{◌≡◌, ℕ, List, [], ◌∷◌, ◌++◌, Ok, ⊤}
 use Rattle.call_form.specs.declared.Reply.{Reply}
 use Rattle.caller_form.specs.ReplyOf.{reply_of}
 use Rattle.link_exchange.specs.declared.ends.AskEnd.{AskEnd}
@@ -18,3 +18,7 @@ pub record IsOneReply (payloads : List (List ℕ)) (end : AskEnd) : Type 0 where
 abbrev pub IsWellTyped : AskEnd → Type 0
 IsWellTyped (IllTyped index field) = ⊥
 IsWellTyped _ = ⊤
+
+-- the payload of one reply, and a mark behind it
+abbrev pub IsLine : ℕ → List ℕ → Type 0
+IsLine mark printed = (payload : List ℕ) × (reply : Reply) × (printed ≡ payload ++ mark ∷ []) × (reply_of payload ≡ Ok reply)

@@ -10,6 +10,7 @@ use Rattle.link_exchange.specs.Asked.{Reading, asked}
 use Rattle.link_exchange.specs.declared.asked.Asking.{Asking}
 use Rattle.link_exchange.specs.declared.ends.AskEnd.{AskEnd}
 use Rattle.link_exchange.specs.declared.ends.AskEnd.TheVariants as ask
+use Rattle.link_exchange.specs.OneReply.{IsLine}
 use Rattle.link_exchange.specs.Passing.{LinkFaults}
 use Rattle.link_exchange.specs.Stands.{Unread, Stand, stand}
 use Rattle.client_core.specs.Calls.{Side, CalledOn, asking_of, lines_of, behind, unread}
@@ -19,7 +20,7 @@ use Rattle.standard_calls.specs.declared.faults.NoDescription.{NoDescription}
 use Rattle.standard_calls.specs.declared.faults.NoDescription.TheVariants as none
 use Rattle.typed_call.specs.declared.ends.TypedEnd.{TypedEnd}
 use Rattle.typed_call.specs.declared.ends.TypedEnd.TheVariants.{Asked, NoDescription as NoneTold}
-use Rattle.typed_call.specs.Describing.{Describes, Tells, FaultsOf, LinkFaultsOf, WriteFaultsOf, IsNoWriteFault, IsLine, IsSaid, aside, told}
+use Rattle.typed_call.specs.Describing.{Describes, Tells, FaultsOf, LinkFaultsOf, WriteFaultsOf, IsNoWriteFault, IsSaid, aside, told}
 use Rattle.typed_call.specs.TypedCalls.{TypedOn, TypedOver}
 use Rattle.typed_call.specs.Typed.{reading, typed_of}
 use Rattle.typed_call.proofs.OneLine.{asks-nothing}
@@ -38,7 +39,7 @@ describes-nothing interface method link stood = record {
 }
 
 -- memory was wanting while the reply was read
-pub memory-said : (method printed : List ℕ) → IsLine printed → IsSaid method printed (Err (Asked ask.Memory))
+pub memory-said : (method printed : List ℕ) → IsLine 10 printed → IsSaid method printed (Err (Asked ask.Memory))
 memory-said method printed line = record {
   payload = line.0;
   reply = line.1;

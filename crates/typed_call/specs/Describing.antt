@@ -75,10 +75,6 @@ pub record Describes (interface method : List ℕ) (link : ℕ) (old new : Stand
 
 -- ---- for private clauses
 
--- one reply was passed on as a line
-abbrev pub IsLine : List ℕ → Type 0
-IsLine printed = (payload : List ℕ) × (reply : Reply) × (printed ≡ payload ++ 10 ∷ []) × (reply_of payload ≡ Ok reply)
-
 -- the count of the reach's faults rose exactly where the answer is that it failed
 abbrev pub LinkFaultsOf : TypedEnd → ℕ → ℕ → Type 0
 LinkFaultsOf (Asked end) before now = LinkFaults end before now

@@ -6,11 +6,11 @@ ghost use Rattle.link_reach.specs.Links.{AsBefore, OthersAsBefore};
 ghost use Rattle.link_reach.specs.Worlds.{left_of};
 ghost use Rattle.link_reach.specs.declared.deeds.LinkState.TheVariants.{Open};
 ghost use Rattle.link_exchange.specs.Gathering.{IsLast};
-ghost use Rattle.link_exchange.specs.OneReply.{IsWellTyped};
+ghost use Rattle.link_exchange.specs.OneReply.{IsLine, IsWellTyped};
 ghost use Rattle.link_exchange.specs.Stands.{stand};
 ghost use Rattle.resolver_core.specs.Words.{at_dot};
 ghost use Rattle.standard_calls.specs.Asking.{description_call};
-ghost use Rattle.typed_call.specs.Describing.{Describes, Tells, IsLine, IsSaid, FaultsOf, lacks, told};
+ghost use Rattle.typed_call.specs.Describing.{Describes, Tells, IsSaid, FaultsOf, lacks, told};
 
 use crate::ends::{ReplyEnd, TypedEnd, Why};
 use caller_form::{REPLY_LIMIT, ReplyFault, call_text, read_reply};
@@ -98,7 +98,7 @@ fn answer_of(
     printed: &[u8],
 ) -> Result<Described, TypedEnd>
     requires typed { IsWellTyped end }
-    requires line { IsLast end → IsLine printed.now }
+    requires line { IsLast end → IsLine 10 printed.now }
     ensures { Tells method.now end printed.now result }
 {
     match end {
@@ -126,7 +126,7 @@ fn lacks(end: ReplyEnd) -> Result<Described, TypedEnd>
 
 // What the line of a reply says of the method of that name.
 fn said_in(alloc: Global, method: &str, printed: &[u8]) -> Result<Described, TypedEnd>
-    requires { IsLine printed.now }
+    requires { IsLine 10 printed.now }
     ensures { IsSaid method.now printed.now result }
 {
     let [payload @ .., _] = printed else {
