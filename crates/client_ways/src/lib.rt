@@ -1,9 +1,11 @@
-//! A client that calls services by the name of their interface, as a resolver tells where they are.
+//! A client: calls at an address, over a bridge that is started, and where a resolver says that an interface is served.
 #![tactic(auto)]
 
+mod direct;
 mod ends;
 mod unresolved;
 mod ways;
 
-pub use ends::ClientEnd;
+pub use direct::{call_at, call_by_child};
+pub use ends::{Ask, ClientEnd};
 pub use ways::call_resolved;

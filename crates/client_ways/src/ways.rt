@@ -2,13 +2,12 @@
 ghost use Rattle.std.specs.Prelude.{◌≡◌, false};
 ghost use Rattle.link_port.specs.Flow.{IsAsBefore};
 ghost use Rattle.call_form.specs.CallText.{IsSendable};
-ghost use Rattle.client_ways.specs.Ways.{Resolves, GoesTo, AsksFirst, CallsAt, CountsLinkFaults, CountsWriteFaults};
+ghost use Rattle.client_ways.specs.Ways.{Resolves, GoesTo, AsksFirst, CountsLinkFaults, CountsWriteFaults};
 
-use crate::ends::ClientEnd;
+use crate::direct::call_at;
+use crate::ends::{Ask, ClientEnd};
 use crate::unresolved::tell_nobody;
 use address_finding::{ResolveEnd, resolve};
-use call_form::Call;
-use client_core::call_direct;
 use link_doors::Address;
 use link_exchange::AskEnd;
 use link_port::{Sink, Text};
@@ -26,12 +25,12 @@ pub fn call_resolved<R: Reach, K: Sink>(
     alloc: Global,
     reach: &mut R,
     resolver: &Address,
-    call: &Call,
+    ask: Ask<'_>,
     sink: &mut K,
 ) -> ClientEnd
-    requires sendable { IsSendable call.now }
+    requires sendable { IsSendable ask.call.now }
     requires unfinished { K.finished sink.old ≡ false }
-    ensures resolves { Resolves resolver.now call.now
+    ensures resolves { Resolves resolver.now ask.call.now ask.typed
         (record {
           log = R.log reach.old;
           written = K.written sink.old;
@@ -52,8 +51,8 @@ pub fn call_resolved<R: Reach, K: Sink>(
         (K.read_faults sink.old) (K.read_faults sink.new) }
     ensures unfinished { K.finished sink.new ≡ false }
 {
-    match target(alloc, call) {
-        Ok(goal) => go_to(alloc, reach, goal, resolver, call, sink),
+    match target(alloc, ask.call) {
+        Ok(goal) => go_to(alloc, reach, goal, resolver, ask, sink),
         Err(_) => ClientEnd::Asked(AskEnd::Memory),
     }
 }
@@ -64,12 +63,12 @@ fn go_to<R: Reach, K: Sink>(
     reach: &mut R,
     goal: Goal,
     resolver: &Address,
-    call: &Call,
+    ask: Ask<'_>,
     sink: &mut K,
 ) -> ClientEnd
-    requires sendable { IsSendable call.now }
+    requires sendable { IsSendable ask.call.now }
     requires unfinished { K.finished sink.old ≡ false }
-    ensures goes { GoesTo goal resolver.now call.now
+    ensures goes { GoesTo goal resolver.now ask.call.now ask.typed
         (record {
           log = R.log reach.old;
           written = K.written sink.old;
@@ -91,9 +90,9 @@ fn go_to<R: Reach, K: Sink>(
     ensures unfinished { K.finished sink.new ≡ false }
 {
     match goal {
-        Goal::Resolver => call_at(alloc, reach, resolver, call, sink),
-        Goal::Interface(interface) => ask_first(alloc, reach, interface, resolver, call, sink),
-        Goal::Nowhere(word) => tell_nobody(alloc, word, call.oneway, sink),
+        Goal::Resolver => call_at(alloc, reach, resolver, ask, sink),
+        Goal::Interface(interface) => ask_first(alloc, reach, interface, resolver, ask, sink),
+        Goal::Nowhere(word) => tell_nobody(alloc, word, ask.call.oneway, sink),
     }
 }
 
@@ -103,12 +102,12 @@ fn ask_first<R: Reach, K: Sink>(
     reach: &mut R,
     interface: Text,
     resolver: &Address,
-    call: &Call,
+    ask: Ask<'_>,
     sink: &mut K,
 ) -> ClientEnd
-    requires sendable { IsSendable call.now }
+    requires sendable { IsSendable ask.call.now }
     requires unfinished { K.finished sink.old ≡ false }
-    ensures asks { AsksFirst resolver.now interface call.now
+    ensures asks { AsksFirst resolver.now interface ask.call.now ask.typed
         (record {
           log = R.log reach.old;
           written = K.written sink.old;
@@ -132,11 +131,11 @@ fn ask_first<R: Reach, K: Sink>(
     match resolve(alloc, reach, resolver, interface.as_str()) {
         Ok(address) => {
             drop(interface);
-            let end = call_at(alloc, reach, &address, call, sink);
+            let end = call_at(alloc, reach, &address, ask, sink);
             drop(address);
             end
         }
-        Err(ResolveEnd::Missing) => tell_nobody(alloc, interface, call.oneway, sink),
+        Err(ResolveEnd::Missing) => tell_nobody(alloc, interface, ask.call.oneway, sink),
         Err(ResolveEnd::Bad(fault)) => {
             drop(interface);
             ClientEnd::Resolver(fault)
@@ -150,38 +149,4 @@ fn ask_first<R: Reach, K: Sink>(
             ClientEnd::Asked(AskEnd::Memory)
         }
     }
-}
-
-// Makes the call at this address.
-fn call_at<R: Reach, K: Sink>(
-    alloc: Global,
-    reach: &mut R,
-    address: &Address,
-    call: &Call,
-    sink: &mut K,
-) -> ClientEnd
-    requires sendable { IsSendable call.now }
-    requires unfinished { K.finished sink.old ≡ false }
-    ensures calls { CallsAt address.now call.now
-        (record {
-          log = R.log reach.old;
-          written = K.written sink.old;
-          opened = R.opened reach.old;
-          state = R.state reach.old;
-        })
-        (record {
-          log = R.log reach.new;
-          written = K.written sink.new;
-          opened = R.opened reach.new;
-          state = R.state reach.new;
-        })
-        result }
-    ensures link_faults { CountsLinkFaults result (R.faults reach.old) (R.faults reach.new) }
-    ensures write_faults { CountsWriteFaults result (K.write_faults sink.old) (K.write_faults sink.new) }
-    ensures freed { R.freed reach.new ≡ R.freed reach.old }
-    ensures other { IsAsBefore (K.left sink.old) (K.left sink.new)
-        (K.read_faults sink.old) (K.read_faults sink.new) }
-    ensures unfinished { K.finished sink.new ≡ false }
-{
-    ClientEnd::Asked(call_direct(alloc, reach, address, call, sink))
 }

@@ -6,7 +6,7 @@ ghost use Rattle.call_form.specs.CallText.{IsSendable};
 
 use address_finding::ResolveFault;
 use call_form::Call;
-use client_ways::{ClientEnd, call_resolved};
+use client_ways::{Ask, ClientEnd, call_at, call_by_child, call_resolved};
 use link_doors::Address;
 use link_exchange::AskEnd;
 use link_port::{List, MemSink, Memory, Text, Value};
@@ -35,6 +35,21 @@ const MISSING: &[u8] =
 /// What a service says.
 const TOTAL: &[u8] = b"{\"parameters\":{\"total\":5}}\0";
 
+/// What a service says that describes the method first.
+const TYPED_TOTAL: &[u8] =
+    b"{\"parameters\":{\"description\":\"interface org.example.count method Add(amount: int) -> (total: int)\"}}\0{\"parameters\":{\"total\":5}}\0";
+
+const DESCRIBING: &[u8] =
+    b"{\"method\":\"org.varlink.service.GetInterfaceDescription\",\"parameters\":{\"interface\":\"org.example.count\"}}\0";
+
+/// By which way a call is made.
+#[derive(Clone, Copy)]
+enum By {
+    Resolver,
+    Address,
+    Bridge,
+}
+
 /// A call, what the peers of the first two links say, and which calls of the reach and puts of the sink fail.
 #[derive(Clone, Copy)]
 struct Way<'a> {
@@ -42,6 +57,8 @@ struct Way<'a> {
     /// The interface that it names, if it is not empty.
     interface: &'a str,
     oneway: bool,
+    typed: bool,
+    by: By,
     says: (&'a [u8], &'a [u8]),
     failing: &'a [u64],
     failing_puts: &'a [u64],
@@ -147,6 +164,7 @@ fn called(alloc: Global, way: &Way<'_>) -> Result<Call, Memory>
 fn is_end(end: &ClientEnd, want: (&str, &str, u64)) -> bool {
     match end {
         ClientEnd::Asked(asked) => is_asked(asked, want),
+        ClientEnd::NoDescription(_) => want == ("no description", "", 0),
         ClientEnd::Unresolved { interface } => want == ("unresolved", interface.as_str(), 0),
         ClientEnd::Resolver(fault) => want == ("resolver", fault_word(fault), 0),
     }
@@ -156,6 +174,7 @@ fn is_asked(end: &AskEnd, want: (&str, &str, u64)) -> bool {
     match end {
         AskEnd::Done { replies } => want == ("done", "", *replies),
         AskEnd::ErrorReply { name } => want == ("error", name.as_str(), 0),
+        AskEnd::IllTyped { index, field } => want == ("ill typed", field.as_str(), *index),
         AskEnd::LinkFault => want == ("link fault", "", 0),
         AskEnd::WriteFault => want == ("write fault", "", 0),
         _ => false,
@@ -176,7 +195,8 @@ fn fault_word(fault: &ResolveFault) -> &str {
 fn is_deed(deed: &Deed, want: (&str, u64, &[u8])) -> bool {
     match deed {
         Deed::Dialled(Address::Unix(path)) => want == ("dialled", 0, path.as_str().as_bytes()),
-        Deed::Dialled(_) | Deed::Started { .. } => false,
+        Deed::Started { program, .. } => want == ("started", 0, program.as_str().as_bytes()),
+        Deed::Dialled(_) => false,
         Deed::Sent { link, bytes } => want == ("sent", *link, bytes.as_slice()),
         Deed::Took { link, bytes } => want == ("took", *link, bytes.as_slice()),
         Deed::Ended { link } => want == ("ended", *link, b""),
@@ -191,17 +211,27 @@ fn are_deeds(deeds: &[Deed], wants: &[(&str, u64, &[u8])]) -> bool {
             .all(|(deed, want)| is_deed(deed, *want))
 }
 
-// How the call ends where the resolver is at `unix:/r`.
-fn end_of(alloc: Global, reach: &mut MemReach, call: &Call, sink: &mut MemSink) -> ClientEnd
-    requires sendable { IsSendable call.now }
+// How the call ends where the resolver, or the service, is at `unix:/r`.
+fn end_of(
+    alloc: Global,
+    reach: &mut MemReach,
+    by: By,
+    ask: Ask<'_>,
+    sink: &mut MemSink,
+) -> ClientEnd
+    requires sendable { IsSendable ask.call.now }
     requires unfinished { sink.old.finished ≡ false }
 {
     let Ok(path) = Text::of(alloc, "/r") else {
         return ClientEnd::Asked(AskEnd::Memory);
     };
-    let resolver = Address::Unix(path);
-    let end = call_resolved(alloc, reach, &resolver, call, sink);
-    drop(resolver);
+    let address = Address::Unix(path);
+    let end = match by {
+        By::Resolver => call_resolved(alloc, reach, &address, ask, sink),
+        By::Address => call_at(alloc, reach, &address, ask, sink),
+        By::Bridge => call_by_child(alloc, reach, "/bin/bridge", &address, ask, sink),
+    };
+    drop(address);
     end
 }
 
@@ -210,18 +240,22 @@ fn prints(
     alloc: Global,
     reach: &mut MemReach,
     call: &Call,
-    failing_puts: &[u64],
+    way: &Way<'_>,
     want: &Wanted<'_>,
 ) -> bool
     requires { IsSendable call.now }
 {
-    let Ok(failing) = numbers(alloc, failing_puts) else {
+    let Ok(failing) = numbers(alloc, way.failing_puts) else {
         return false;
     };
     let Ok(mut sink) = MemSink::new(alloc, 256, List::new(alloc), failing) else {
         return false;
     };
-    let end = end_of(alloc, reach, call, &mut sink);
+    let ask = Ask {
+        call,
+        typed: way.typed,
+    };
+    let end = end_of(alloc, reach, way.by, ask, &mut sink);
     let right = is_end(&end, want.end) && sink.bytes() == want.lines;
     drop((end, sink));
     right
@@ -234,7 +268,7 @@ fn comes_to(alloc: Global, way: &Way<'_>, want: &Wanted<'_>) -> bool {
     };
     let right = match reach(alloc, way) {
         Ok(mut reach) => {
-            let printed = prints(alloc, &mut reach, &call, way.failing_puts, want);
+            let printed = prints(alloc, &mut reach, &call, way, want);
             let done = are_deeds(reach.deeds(), want.deeds);
             drop(reach);
             printed && done
@@ -250,6 +284,8 @@ const fn calls<'a>(word: &'a str, oneway: bool, says: (&'a [u8], &'a [u8])) -> W
         word,
         interface: "",
         oneway,
+        typed: false,
+        by: By::Resolver,
         says,
         failing: &[],
         failing_puts: &[],
@@ -261,6 +297,8 @@ const fn describes<'a>(interface: &'a str, says: (&'a [u8], &'a [u8])) -> Way<'a
         word: "org.varlink.service.GetInterfaceDescription",
         interface,
         oneway: false,
+        typed: false,
+        by: By::Resolver,
         says,
         failing: &[],
         failing_puts: &[],
@@ -282,6 +320,76 @@ fn a_call_goes_where_the_resolver_says(rt: HostRuntime) {
         ],
     };
     assert!(rt; comes_to(rt.alloc(), &calls(ADD, false, (FOUND, TOTAL)), &want));
+}
+
+#[test]
+fn a_call_is_made_at_an_address_and_over_a_bridge(rt: HostRuntime) {
+    let at = Way {
+        by: By::Address,
+        ..calls(ADD, false, (TOTAL, b""))
+    };
+    let dialled = Wanted {
+        end: ("done", "", 1),
+        lines: b"{\"parameters\":{\"total\":5}}\n",
+        deeds: &[
+            ("dialled", 0, b"/r"),
+            ("sent", 0, ADDING),
+            ("took", 0, TOTAL),
+        ],
+    };
+    assert!(rt; comes_to(rt.alloc(), &at, &dialled));
+    let over = Way {
+        by: By::Bridge,
+        ..at
+    };
+    let started = Wanted {
+        deeds: &[
+            ("started", 0, b"/bin/bridge"),
+            ("sent", 0, ADDING),
+            ("took", 0, TOTAL),
+        ],
+        ..dialled
+    };
+    assert!(rt; comes_to(rt.alloc(), &over, &started));
+}
+
+#[test]
+fn replies_of_a_typed_call_are_read(rt: HostRuntime) {
+    let way = Way {
+        typed: true,
+        ..calls(ADD, false, (FOUND, TYPED_TOTAL))
+    };
+    let want = Wanted {
+        end: ("done", "", 1),
+        lines: b"{\"parameters\":{\"total\":5}}\n",
+        deeds: &[
+            ("dialled", 0, b"/r"),
+            ("sent", 0, ASKING),
+            ("took", 0, FOUND),
+            ("dialled", 0, b"/count"),
+            ("sent", 1, DESCRIBING),
+            ("took", 1, TYPED_TOTAL),
+            ("sent", 1, ADDING),
+        ],
+    };
+    assert!(rt; comes_to(rt.alloc(), &way, &want));
+    let none = Way {
+        says: (FOUND, b"{}\0"),
+        ..way
+    };
+    let unsent = Wanted {
+        end: ("no description", "", 0),
+        lines: b"",
+        deeds: &[
+            ("dialled", 0, b"/r"),
+            ("sent", 0, ASKING),
+            ("took", 0, FOUND),
+            ("dialled", 0, b"/count"),
+            ("sent", 1, DESCRIBING),
+            ("took", 1, b"{}\0"),
+        ],
+    };
+    assert!(rt; comes_to(rt.alloc(), &none, &unsent));
 }
 
 #[test]
