@@ -1,5 +1,6 @@
 -- a call that takes one reply and ends with it passed on one payload as a line
-use Rattle.std.proofs.Common.{◌≡◌, ℕ, Bool, true, false, List, [], ◌∷◌, ◌++◌, Option, Some, Result, Ok, Err, refl, sym, ◌∙◌, ap, subst, inl, inr, cond, ◌⊎◌}
+use Rattle.std.proofs.Common.{◌≡◌, ℕ, false, List, [], ◌∷◌, ◌++◌, None, Result, refl, sym, ◌∙◌, subst, inl, inr}
+use Rattle.call_form.specs.declared.Reply.{Reply}
 use Rattle.caller_form.specs.CallBytes.{call_bytes}
 use Rattle.link_reach.specs.declared.deeds.Deed.{Deed}
 use Rattle.link_reach.specs.declared.deeds.Deed.TheVariants as deed
@@ -30,10 +31,11 @@ called-line dial text before after printed end last (inr (inr on)) =
     (line.0, exchanged.wrote ∙ line.2)
 
 -- no reply of it is ill typed
-pub called-typed : (dial : Deed) (text : List ℕ) (before after : Side) (end : AskEnd) → CallsOver dial text asks_one before after end → IsWellTyped end
-called-typed dial text before after end (inl nothing) = subst IsWellTyped (sym nothing.0) tt
-called-typed dial text before after end (inr (inl vain)) = subst IsWellTyped (sym vain.0) tt
-called-typed dial text before after end (inr (inr on)) = exchanged_typed asks_one _ _ _ _ end (λ reply. refl) on.called.exchanged
+pub called-typed : (dial : Deed) (text : List ℕ) (asked : Asked) (before after : Side) (end : AskEnd) → ((reply : Reply) → asked.unread reply ≡ None)
+    → CallsOver dial text asked before after end → IsWellTyped end
+called-typed dial text asked before after end reads (inl nothing) = subst IsWellTyped (sym nothing.0) tt
+called-typed dial text asked before after end reads (inr (inl vain)) = subst IsWellTyped (sym vain.0) tt
+called-typed dial text asked before after end reads (inr (inr on)) = exchanged_typed asked _ _ _ _ end reads on.called.exchanged
 
 tells-line : (told : Result Address ResolveEnd) (printed : List ℕ) → (payload : List ℕ) × (printed ≡ payload ++ 10 ∷ [])
     → TellsIn told printed → TellsLine told printed

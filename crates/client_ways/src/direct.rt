@@ -26,7 +26,7 @@ pub fn call_at<R: Reach, K: Sink>(
 ) -> ClientEnd
     requires sendable { IsSendable ask.call.now }
     requires unfinished { K.finished sink.old ≡ false }
-    ensures calls { CallsBy (deed.Dialled address.now) ask.call.now ask.typed
+    ensures calls { CallsBy (deed.Dialled address.now) ask.entry.call.now ask.entry.typed
         (record {
           log = R.log reach.old;
           written = K.written sink.old;
@@ -66,7 +66,7 @@ pub fn call_by_child<R: Reach, K: Sink>(
 ) -> ClientEnd
     requires sendable { IsSendable ask.call.now }
     requires unfinished { K.finished sink.old ≡ false }
-    ensures calls { CallsBy (deed.Started program.now resolver.now) ask.call.now ask.typed
+    ensures calls { CallsBy (deed.Started program.now resolver.now) ask.entry.call.now ask.entry.typed
         (record {
           log = R.log reach.old;
           written = K.written sink.old;

@@ -30,7 +30,7 @@ pub fn call_resolved<R: Reach, K: Sink>(
 ) -> ClientEnd
     requires sendable { IsSendable ask.call.now }
     requires unfinished { K.finished sink.old ≡ false }
-    ensures resolves { Resolves resolver.now ask.call.now ask.typed
+    ensures resolves { Resolves resolver.now ask.entry.call.now ask.entry.typed
         (record {
           log = R.log reach.old;
           written = K.written sink.old;
@@ -68,7 +68,7 @@ fn go_to<R: Reach, K: Sink>(
 ) -> ClientEnd
     requires sendable { IsSendable ask.call.now }
     requires unfinished { K.finished sink.old ≡ false }
-    ensures goes { GoesTo goal resolver.now ask.call.now ask.typed
+    ensures goes { GoesTo goal resolver.now ask.entry.call.now ask.entry.typed
         (record {
           log = R.log reach.old;
           written = K.written sink.old;
@@ -107,7 +107,7 @@ fn ask_first<R: Reach, K: Sink>(
 ) -> ClientEnd
     requires sendable { IsSendable ask.call.now }
     requires unfinished { K.finished sink.old ≡ false }
-    ensures asks { AsksFirst resolver.now interface ask.call.now ask.typed
+    ensures asks { AsksFirst resolver.now interface ask.entry.call.now ask.entry.typed
         (record {
           log = R.log reach.old;
           written = K.written sink.old;

@@ -345,6 +345,67 @@ fn what_is_no_reply_ends_the_call(rt: HostRuntime) {
     );
 }
 
+// A reply without members, with so many spaces behind it.
+fn padded(alloc: Global, spaces: usize) -> Result<List<u8>, Memory> {
+    let Ok(mut bytes) = vec![in alloc; b' '; spaces] else {
+        return Err(Memory);
+    };
+    if bytes.insert(0, b'}').is_err() || bytes.insert(0, b'{').is_err() || bytes.push(0).is_err() {
+        drop(bytes);
+        return Err(Memory);
+    }
+    Ok(List::from_vec(bytes))
+}
+
+// Whether a reply with so many spaces behind it ends the call so, and whether it is passed on.
+fn padded_ends(alloc: Global, spaces: usize, end: (&str, u64), is_passed_on: bool) -> bool {
+    let Ok(says) = padded(alloc, spaces) else {
+        return false;
+    };
+    let Ok(mut reach) = reach(alloc, says.as_slice(), &[]) else {
+        drop(says);
+        return false;
+    };
+    let Ok(mut line) = padded(alloc, spaces) else {
+        drop((says, reach));
+        return false;
+    };
+    drop(says);
+    let right = ends_with_line(alloc, &mut reach, &mut line, end, is_passed_on);
+    drop((reach, line));
+    right
+}
+
+// The same, where this is the message; a line feed takes the place of its NUL.
+fn ends_with_line(
+    alloc: Global,
+    reach: &mut MemReach,
+    line: &mut List<u8>,
+    end: (&str, u64),
+    is_passed_on: bool,
+) -> bool {
+    let mut bytes = std::mem::replace(line, List::new(alloc)).into_vec();
+    let _nul = bytes.pop();
+    let pushed = bytes.push(b'\n').is_ok();
+    let want: &[u8] = if is_passed_on { bytes.as_slice() } else { b"" };
+    let right = pushed && is_called(alloc, reach, ONE, 8_388_608, (end.0, end.1, want), b"");
+    drop(bytes);
+    right
+}
+
+#[test]
+fn a_reply_of_several_takes_is_passed_on_whole(rt: HostRuntime) {
+    assert!(rt; padded_ends(rt.alloc(), 70_000, ("done", 1), true));
+    assert!(rt; padded_ends(rt.alloc(), 65_533, ("done", 1), true));
+    assert!(rt; padded_ends(rt.alloc(), 65_534, ("done", 1), true));
+}
+
+#[test]
+fn a_reply_past_the_limit_is_too_long(rt: HostRuntime) {
+    assert!(rt; padded_ends(rt.alloc(), 4_194_302, ("done", 1), true));
+    assert!(rt; padded_ends(rt.alloc(), 4_194_303, ("too long", 0), false));
+}
+
 #[test]
 fn a_oneway_call_takes_nothing(rt: HostRuntime) {
     assert!(rt;

@@ -9,7 +9,6 @@ use Rattle.message_frame.specs.Pieces.{pieces}
 use Rattle.link_exchange.specs.Asked.{Asked}
 use Rattle.link_exchange.specs.declared.ends.AskEnd.{AskEnd}
 use Rattle.link_exchange.specs.declared.ends.AskEnd.TheVariants as ask
-use Rattle.link_exchange.specs.declared.verdicts.Verdict.{Verdict}
 use Rattle.link_exchange.specs.declared.verdicts.Verdict.TheVariants.{Goes, Last, Astray}
 use Rattle.link_exchange.specs.Exchanges.{Exchanged, CameTo, BrokeOff, IsBroken}
 use Rattle.link_exchange.specs.Gathering.{IsLast}

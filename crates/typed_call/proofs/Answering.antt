@@ -1,12 +1,12 @@
 -- What is said of a description's end, of faults, and of a call that goes on with it.
-use Rattle.std.proofs.Common.{◌≡◌, ℕ, ◌+◌, ◌<◌, List, [], ◌∷◌, ◌++◌, length, Option, Some, Result, Ok, Err, refl, sym, ◌∙◌, ap, subst, arith, inr, length-append}
+use Rattle.std.proofs.Common.{◌≡◌, ℕ, ◌+◌, ◌<◌, List, [], ◌∷◌, ◌++◌, length, Option, Result, Ok, Err, refl, sym, ◌∙◌, subst, arith, inr, length-append}
 use Rattle.call_form.specs.declared.Call.{Call}
 use Rattle.caller_form.specs.CallBytes.{call_bytes}
 use Rattle.link_reach.specs.Links.{Becomes, OthersAsBefore}
 use Rattle.link_reach.specs.declared.deeds.Deed.{Deed}
 use Rattle.link_reach.specs.declared.deeds.LinkState.{LinkState}
 use Rattle.link_reach.specs.declared.deeds.LinkState.TheVariants.{Closed}
-use Rattle.link_exchange.specs.Asked.{Reading, asked}
+use Rattle.link_exchange.specs.Asked.{asked}
 use Rattle.link_exchange.specs.declared.asked.Asking.{Asking}
 use Rattle.link_exchange.specs.declared.ends.AskEnd.{AskEnd}
 use Rattle.link_exchange.specs.declared.ends.AskEnd.TheVariants as ask
@@ -20,7 +20,7 @@ use Rattle.standard_calls.specs.declared.faults.NoDescription.{NoDescription}
 use Rattle.standard_calls.specs.declared.faults.NoDescription.TheVariants as none
 use Rattle.typed_call.specs.declared.ends.TypedEnd.{TypedEnd}
 use Rattle.typed_call.specs.declared.ends.TypedEnd.TheVariants.{Asked, NoDescription as NoneTold}
-use Rattle.typed_call.specs.Describing.{Describes, Tells, FaultsOf, LinkFaultsOf, WriteFaultsOf, IsNoWriteFault, IsSaid, aside, told}
+use Rattle.typed_call.specs.Describing.{Describes, Tells, FaultsOf, WriteFaultsOf, IsNoWriteFault, IsSaid, aside, told}
 use Rattle.typed_call.specs.TypedCalls.{TypedOn, TypedOver}
 use Rattle.typed_call.specs.Typed.{reading, typed_of}
 use Rattle.typed_call.proofs.OneLine.{asks-nothing}

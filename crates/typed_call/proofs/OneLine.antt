@@ -1,18 +1,14 @@
 -- A call for a definition passes on one line where it ends with its reply, and no reply of it is ill typed.
-use Rattle.std.proofs.Common.{◌≡◌, ℕ, ◌+◌, ◌<◌, false, List, [], ◌∷◌, ◌++◌, length, Option, None, Some, Ok, refl, sym, ◌∙◌, ap, subst, arith, length-append, inl, inr}
+use Rattle.std.proofs.Common.{◌≡◌, ℕ, ◌<◌, List, [], length, Option, Some, refl, sym, subst, arith, inr}
 use Rattle.std.proofs.KnownBytes.{Appends-nil}
-use Rattle.std.proofs.lemmas.List.{append-nil}
 use Rattle.std.specs.Io.KnownBytes.{Appends}
-use Rattle.std.specs.Prelude.{◌⊎◌}
-use Rattle.caller_form.specs.CallBytes.{call_bytes}
-use Rattle.link_reach.specs.declared.deeds.Deed.{Deed}
 use Rattle.link_exchange.specs.Asked.{Asked}
 use Rattle.link_exchange.specs.declared.ends.AskEnd.{AskEnd}
 use Rattle.link_exchange.specs.declared.ends.AskEnd.TheVariants as ask
 use Rattle.link_exchange.specs.Exchanges.{Exchanged}
 use Rattle.link_exchange.specs.Gathering.{IsLast}
 use Rattle.link_exchange.specs.OneReply.{IsWellTyped, IsLine}
-use Rattle.link_exchange.specs.Stands.{Stand, stand}
+use Rattle.link_exchange.specs.Stands.{Stand}
 use Rattle.link_exchange.proofs.OneReply.{exchanged_line, exchanged_typed}
 use Rattle.link_exchange.proofs.SendLemmas.{Gains-none}
 use Rattle.link_exchange.proofs.TakingLemmas.{none-needed}

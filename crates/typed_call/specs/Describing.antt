@@ -2,7 +2,6 @@
 use Rattle.std.specs.Prelude.{◌≡◌, ℕ, List, [], ◌∷◌, ◌++◌, Some, Result, Ok, Err, ⊤}
 use Rattle.caller_form.specs.CallBytes.{call_bytes}
 use Rattle.caller_form.specs.ReplyOf.{reply_of}
-use Rattle.caller_form.specs.declared.faults.ReplyFault.{ReplyFault}
 use Rattle.call_form.specs.declared.Reply.{Reply}
 use Rattle.link_exchange.specs.declared.ends.AskEnd.{AskEnd}
 use Rattle.link_exchange.specs.declared.ends.AskEnd.TheVariants as ask

@@ -7,9 +7,8 @@ use Rattle.link_reach.specs.Links.{OthersAsBefore}
 use Rattle.link_reach.specs.declared.deeds.Deed.{Deed}
 use Rattle.link_reach.specs.declared.deeds.LinkState.TheVariants.{Closed}
 use Rattle.link_exchange.specs.declared.ends.AskEnd.{AskEnd}
-use Rattle.link_exchange.specs.declared.ends.AskEnd.TheVariants as ask
 use Rattle.link_exchange.specs.Stands.{Stand, stand}
-use Rattle.client_core.specs.Calls.{Side, HasNoLink, DoesNothing, DialsInVain, CalledOn, behind, unread}
+use Rattle.client_core.specs.Calls.{Side, DoesNothing, DialsInVain, CalledOn, behind, unread}
 use Rattle.standard_calls.specs.Descriptions.{Output}
 use Rattle.standard_calls.specs.declared.faults.NoDescription.TheVariants.{NoMethod}
 use Rattle.typed_call.specs.Describing.{Describes}

@@ -1,4 +1,4 @@
-use Rattle.std.proofs.Common.{rules}
+use Rattle.std.proofs.Common.{refl, rules}
 use Rattle.address_finding.proofs.NothingDone.{nothing_done}
 use Rattle.address_finding.proofs.OneLine.{found, called-typed}
 use Rattle.address_finding.proofs.finding.resolve.Goals as goal
@@ -16,4 +16,4 @@ returns-in-Ok-new-clause-finds g c =
     (search rules) (search rules)
 
 pub answer_of-answer-requires : goal.answer_of-answer-requires
-answer_of-answer-requires g c = called-typed _ _ _ _ c.call_direct-end.result c.call_direct-end.ensures.calls
+answer_of-answer-requires g c = called-typed _ _ _ _ _ c.call_direct-end.result (λ reply. refl) c.call_direct-end.ensures.calls

@@ -1,4 +1,4 @@
-use Rattle.std.proofs.Common.{List, Some, ℕ, ap, sym}
+use Rattle.std.proofs.Common.{Some, ap, sym}
 use Rattle.typed_call.proofs.Answering.{describes-nothing, faults-of}
 use Rattle.typed_call.proofs.OneLine.{one_line, all_typed}
 use Rattle.typed_call.proofs.describing.describe.Goals as goal
