@@ -2,21 +2,28 @@
 #![tactic(auto)]
 
 use link_port::Text;
+use network_command::{Network, online};
+use network_words::is_network;
+use socket_edges::RealReach;
 use std::env;
 use std::io::ErrorKind;
 use std::process::ExitCode;
 use varlink_command::{Desktop, Fault, RealFiles, RealInput, RealOutput, Status, offline, refuse};
 
 fn main(rt: HostRuntime) -> ExitCode {
-    let mut world = Desktop {
-        input: RealInput::new(rt.stdin()),
-        output: RealOutput::new(rt.stdout()),
-        faults: RealOutput::new(rt.stderr()),
-        files: RealFiles::new(rt),
+    let mut net = Network {
+        desktop: Desktop {
+            input: RealInput::new(rt.stdin()),
+            output: RealOutput::new(rt.stdout()),
+            faults: RealOutput::new(rt.stderr()),
+            files: RealFiles::new(rt),
+        },
+        reach: RealReach::new(rt.alloc(), rt),
     };
     let Status(status) = match words(rt) {
-        Ok(words) => offline(rt.alloc(), &words, &mut world),
-        Err(fault) => refuse(&mut world, fault),
+        Ok(words) if is_network(&words) => online(rt.alloc(), &words, &mut net),
+        Ok(words) => offline(rt.alloc(), &words, &mut net.desktop),
+        Err(fault) => refuse(&mut net.desktop, fault),
     };
     ExitCode::from(status)
 }

@@ -19,6 +19,7 @@ mod worlds;
 pub use commands::{offline, refuse};
 pub use fault_lines::write_fault_line;
 pub use faults::{Fault, Which};
+pub use pieces::put_texts;
 pub use real_files::RealFiles;
 pub use real_streams::{RealInput, RealOutput};
 pub use worlds::{Desktop, Status, World};

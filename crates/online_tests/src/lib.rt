@@ -1,0 +1,14 @@
+//! The commands that need the network as they are used, over links in memory: rows of words and of what the links say,
+//! with what each must write.
+#![tactic(auto)]
+
+#[cfg(test)]
+mod calls;
+#[cfg(test)]
+mod lines;
+#[cfg(test)]
+mod resolvers;
+#[cfg(test)]
+mod rows;
+#[cfg(test)]
+mod words;
