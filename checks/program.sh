@@ -202,12 +202,12 @@ expect_unwritten sheet 'write fault' sheet "$sheet"
 # ---- call and resolve
 
 # A run with these words against a peer at the socket `peer`, which is to be asked what the file `asked` holds, and says these
-# texts, one to each connection. `~` stands for NUL.
+# texts between `|`, one to each connection. `~` stands for NUL.
 expect_peer() {
     local name=$1 status=$2 output=$3 line=$4 says=$5
     shift 5
     rm -f "$work/peer"
-    IFS='|' read -r -a sayings <<<"$says"
+    mapfile -t -d '|' sayings < <(printf '%s|' "$says")
     "$top/checks/peer.py" "$work/peer" "${sayings[@]}" >"$work/heard" &
     local peer=$!
     for _ in $(seq 200); do
@@ -216,9 +216,10 @@ expect_peer() {
     done
     expect "$name" "$status" "$output" "$line" "$@" </dev/null
     wait "$peer"
+    local heard=$?
     cp "$work/heard" "$work/out"
     : >"$work/err"
-    compare "$name, what was asked" 0 "$work/asked" - $?
+    compare "$name, what was asked" 0 "$work/asked" - "$heard"
 }
 
 at=unix:$work/peer
@@ -272,10 +273,11 @@ rm -f "$work/peer"
 expect 'a call where nobody listens' 5 - 'link fault' "${add[@]}" </dev/null
 expect 'a resolver that does not listen' 5 - 'link fault' "${resolve[@]}" </dev/null
 for words in "call" "call a.b.C" "call --at $at" "call --at unix: a.b.C" "call --at $at a.b.C [1]" "call --at $at --typed a.b.C" \
-    "call --at $at a.b.C {\"x\":1.5}" "resolve a.b" "resolve --resolver $at a.b c.d" "serve $at s.json" "resolver $at r.json" "bridge --to $at"; do
+    "resolve a.b" "resolve --resolver $at a.b c.d" "serve $at s.json" "resolver $at r.json" "bridge --to $at"; do
     # shellcheck disable=SC2086
     expect "the words '$words'" 1 - 'bad words' $words </dev/null
 done
+expect 'a parameter that is no whole number' 1 - 'bad words' call --at "$at" a.b.C '{"x":1.5}' </dev/null
 
 echo "program: $passed passed, $failed failed"
 [ "$failed" = 0 ]

@@ -5,7 +5,7 @@ use Rattle.link_port.specs.Faults.{Rises}
 use Rattle.link_port.specs.Flow.{AppendsFront, IsAsBefore}
 use Rattle.link_doors.specs.Addresses.{address_text}
 use Rattle.link_doors.specs.declared.addresses.Address.{Address}
-use Rattle.address_finding.specs.Finding.{Finds}
+use Rattle.address_finding.specs.Finding.{Finds, CountsFaults}
 use Rattle.address_finding.specs.declared.ends.ResolveEnd.{ResolveEnd}
 use Rattle.network_command.specs.declared.faults.NetworkFault.{NetworkFault}
 use Rattle.network_command.specs.declared.faults.NetworkFault.TheVariants as fault
@@ -35,4 +35,5 @@ ShowsTold interface (Err end) before after outcome =
 pub record Resolves (resolver : Address) (interface : List ℕ) (before after : Work) (outcome : Result ⊤ NetworkFault) : Type 0 where
   pub told : Result Address ResolveEnd
   pub finds : Finds resolver interface before.links after.links told
+  pub link_faults : CountsFaults told before.link_faults after.link_faults
   pub shows : ShowsTold interface told before after outcome
