@@ -6,7 +6,7 @@ ghost use Rattle.network_command.specs.Faults.{fault_line, fault_text, number_of
 
 use crate::faults::NetworkFault;
 use itoa::Buffer;
-use link_port::{Failed, Sink};
+use link_port::{Failed, Sink, Text};
 use varlink_command::put_texts;
 
 // The text of a fault: what stands before its number, that, what stands behind it, and a name.
@@ -58,14 +58,26 @@ fn plain<'a>(text: &'a str, name: &'a str) -> Wording<'a>
 }
 
 // A text on the reply of the number of these digits.
-fn reply<'a>(digits: &'a str, between: &'a str, name: &'a str) -> Wording<'a>
-    ensures { wording result ≡ codes "reply " ++ digits.now ++ between.now ++ name.now }
+fn reply<'a>(digits: &'a str, between: &'a str) -> Wording<'a>
+    ensures { wording result ≡ codes "reply " ++ digits.now ++ between.now }
 {
     Wording {
         before: "reply ",
         number: digits,
         between,
-        name,
+        name: "",
+    }
+}
+
+// The text on a parameter of the reply of the number of these digits.
+fn ill_typed<'a>(digits: &'a str, field: &'a Text) -> Wording<'a>
+    ensures { wording result ≡ codes "reply " ++ digits.now ++ codes " is ill typed at " ++ field.now }
+{
+    Wording {
+        before: "reply ",
+        number: digits,
+        between: " is ill typed at ",
+        name: field.as_str(),
     }
 }
 
@@ -76,16 +88,16 @@ fn wording_of<'a>(fault: &'a NetworkFault, digits: &'a str) -> Wording<'a>
 {
     match fault {
         NetworkFault::BadWords => plain("bad words", ""),
-        NetworkFault::NotReply { .. } => reply(digits, " is no reply", ""),
-        NetworkFault::Continues { .. } => reply(digits, " continues", ""),
+        NetworkFault::NotReply { .. } => reply(digits, " is no reply"),
+        NetworkFault::Continues { .. } => reply(digits, " continues"),
         NetworkFault::Ended { .. } => Wording {
             before: "ended before reply ",
             number: digits,
             between: "",
             name: "",
         },
-        NetworkFault::TooLong { .. } => reply(digits, " is too long", ""),
-        NetworkFault::IllTyped { field, .. } => reply(digits, " is ill typed at ", field.as_str()),
+        NetworkFault::TooLong { .. } => reply(digits, " is too long"),
+        NetworkFault::IllTyped { field, .. } => ill_typed(digits, field),
         NetworkFault::NoDescription => plain("no description", ""),
         NetworkFault::BadResolver => plain("bad resolver", ""),
         NetworkFault::ErrorReply { name } => plain("error ", name.as_str()),
