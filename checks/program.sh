@@ -67,7 +67,7 @@ expect 'a word that is no text' 1 - 'bad words' check $'\xff' </dev/null
 
 # ---- help
 
-printf '%s\n' check format sheet session help compat >"$work/help"
+printf '%s\n' check format sheet session help call resolve compat >"$work/help"
 expect 'help' 0 "$work/help" - help </dev/null
 : >"$work/in"
 expect_unwritten help 'write fault' help

@@ -35,7 +35,7 @@ fn are_bad(alloc: Global, each: &[&[&str]]) -> bool {
 /// The words of the commands are printed.
 const HELP: Row<'static> = Row {
     words: &["help"],
-    output: b"check\nformat\nsheet\nsession\nhelp\ncompat\n",
+    output: b"check\nformat\nsheet\nsession\nhelp\ncall\nresolve\ncompat\n",
     ..NOTHING
 };
 

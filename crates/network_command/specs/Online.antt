@@ -7,15 +7,15 @@ use Rattle.varlink_command.specs.Ends.{Object, PutsNothing}
 use Rattle.varlink_command.specs.Offline.{TellsLine}
 use Rattle.network_command.specs.declared.faults.NetworkFault.{NetworkFault}
 use Rattle.network_command.specs.declared.faults.NetworkFault.TheVariants.{BadWords, Memory}
-use Rattle.network_command.specs.Calling.{CallsTyped}
+use Rattle.network_command.specs.Calling.{Calls}
 use Rattle.network_command.specs.Ends.{NetworkEnds, Work, work, DoesNothing}
 use Rattle.network_command.specs.Faults.{status_of, fault_line}
 use Rattle.network_command.specs.Resolving.{Resolves}
 
 -- what a command did, and what it came to. Services and bridges are not run yet: their words are bad words
 abbrev pub RanCommand : Network → Work → Work → Result ⊤ NetworkFault → Type 0
--- `call WAY METHOD PARAMETERS`: the call by that way
-RanCommand (net.Call by call typed) before after outcome = CallsTyped typed by call before after outcome
+-- `call WAY [--typed] METHOD PARAMETERS`: the call by that way
+RanCommand (net.Call by call typed) before after outcome = Calls by call typed before after outcome
 -- `resolve --resolver ADDRESS INTERFACE`: the address that the resolver tells, as a line
 RanCommand (net.Resolve resolver interface) before after outcome = Resolves resolver interface before after outcome
 RanCommand (net.Serve what forgets) before after outcome = DoesNothing BadWords before after outcome
@@ -29,7 +29,7 @@ Ran (Some command) before after outcome = RanCommand command before after outcom
 
 -- the words mean no command, or one that is not run yet
 abbrev pub is_refused : Option Network → Bool
-is_refused (Some (net.Call by call typed)) = typed
+is_refused (Some (net.Call by call typed)) = false
 is_refused (Some (net.Resolve resolver interface)) = false
 is_refused (Some (net.Serve what forgets)) = true
 is_refused (Some (net.Resolver what)) = true

@@ -17,14 +17,16 @@ call_outcome (ask.NotReply index why) = Err (fault.NotReply index)
 call_outcome (ask.Continues index) = Err (fault.Continues index)
 call_outcome (ask.Ended index) = Err (fault.Ended index)
 call_outcome (ask.TooLong index) = Err (fault.TooLong index)
+call_outcome (ask.IllTyped index field) = Err (fault.IllTyped index field)
 call_outcome ask.Long = Err fault.Long
 call_outcome ask.LinkFault = Err fault.LinkFault
 call_outcome ask.WriteFault = Err fault.WriteFault
 call_outcome ask.Memory = Err fault.Memory
 
--- of a call by a resolver
+-- of a call of a client
 abbrev pub client_outcome : ClientEnd → Result ⊤ NetworkFault
 client_outcome (client.Asked end) = call_outcome end
+client_outcome (client.NoDescription why) = Err fault.NoDescription
 client_outcome (client.Unresolved interface) = Err (fault.NoAddress interface)
 client_outcome (client.Resolver why) = Err fault.BadResolver
 

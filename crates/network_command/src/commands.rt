@@ -5,11 +5,12 @@ ghost use Rattle.network_words.specs.Meanings.{network, IsSent};
 ghost use Rattle.varlink_command.specs.Ends.{AreOpen, KeepsOthers};
 ghost use Rattle.network_command.specs.Online.{Concludes, RanCommand, RanWords, Runs, is_refused};
 
-use crate::calling::call_typed;
+use crate::calling::call_by;
 use crate::fault_lines::write_network_line;
 use crate::faults::NetworkFault;
 use crate::resolving::show_address;
 use crate::worlds::{Network, NetworkWorld};
+use client_ways::Ask;
 use link_port::{Files, Sink, Source, Text};
 use link_reach::Reach;
 use network_words::{Network as Command, network_of};
@@ -20,9 +21,10 @@ use varlink_command::Status;
 ///
 /// `call` makes a call (varlink.org, "Method Call") and prints the payload of each reply in a line: at an address by
 /// `--at ADDRESS`, where a resolver says by `--resolver ADDRESS`, or over a bridge that is started by
-/// `--resolver ADDRESS --child PROGRAM`. `resolve --resolver ADDRESS INTERFACE` prints the address at which the resolver
+/// `--resolver ADDRESS --child PROGRAM`. With `--typed` the replies are read before, by the definition that the service
+/// gives. `resolve --resolver ADDRESS INTERFACE` prints the address at which the resolver
 /// says that the interface is served.
-/// All other words are bad words, status 1: `serve`, `resolver`, `bridge` and the option `--typed` are not run yet.
+/// All other words are bad words, status 1: `serve`, `resolver` and `bridge` are not run yet.
 /// A fault is told by a line in the sink of faults; that the line cannot be written changes nothing.
 /// The promise holds if the call returns.
 pub fn online<S: Source, O: Sink, E: Sink, F: Files, R: Reach>(
@@ -117,7 +119,8 @@ fn run_command<O: Sink, R: Reach>(
 {
     match command {
         Command::Call { way, call, typed } => {
-            let outcome = call_typed(alloc, &way, &call, typed, output, reach);
+            let ask = Ask { call: &call, typed };
+            let outcome = call_by(alloc, &way, ask, output, reach);
             drop((way, call));
             outcome
         }

@@ -9,7 +9,7 @@ use link_exchange::AskEnd;
 use link_port::Text;
 
 // What a command comes to whose call ended so.
-pub fn call_outcome(end: AskEnd) -> Result<(), NetworkFault>
+fn call_outcome(end: AskEnd) -> Result<(), NetworkFault>
     ensures { result ≡ call_outcome end }
 {
     match end {
@@ -22,6 +22,7 @@ pub fn call_outcome(end: AskEnd) -> Result<(), NetworkFault>
         AskEnd::Continues { index } => Err(NetworkFault::Continues { index }),
         AskEnd::Ended { index } => Err(NetworkFault::Ended { index }),
         AskEnd::TooLong { index } => Err(NetworkFault::TooLong { index }),
+        AskEnd::IllTyped { index, field } => Err(NetworkFault::IllTyped { index, field }),
         AskEnd::Long => Err(NetworkFault::Long),
         AskEnd::LinkFault => Err(NetworkFault::LinkFault),
         AskEnd::WriteFault => Err(NetworkFault::WriteFault),
@@ -29,12 +30,16 @@ pub fn call_outcome(end: AskEnd) -> Result<(), NetworkFault>
     }
 }
 
-// What a command comes to whose call by a resolver ended so.
+// What a command comes to whose call by a client ended so.
 pub fn client_outcome(end: ClientEnd) -> Result<(), NetworkFault>
     ensures { result ≡ client_outcome end }
 {
     match end {
         ClientEnd::Asked(end) => call_outcome(end),
+        ClientEnd::NoDescription(why) => {
+            drop(why);
+            Err(NetworkFault::NoDescription)
+        }
         ClientEnd::Unresolved { interface } => Err(NetworkFault::NoAddress { interface }),
         ClientEnd::Resolver(fault) => {
             drop(fault);

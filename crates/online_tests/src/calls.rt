@@ -47,6 +47,57 @@ fn replies_are_printed(rt: HostRuntime) {
     assert!(rt; are_right(rt.alloc(), &rows));
 }
 
+/// A typed call, and what is sent for it.
+const TYPED: Row<'static> = Row {
+    words: "call --typed --at unix:/a a.b.C",
+    sent: b"{\"method\":\"org.varlink.service.GetInterfaceDescription\",\"parameters\":{\"interface\":\"a.b\"}}\0{\"method\":\"a.b.C\",\"parameters\":{}}\0",
+    ..CALL
+};
+
+/// The call for the definition alone.
+const UNSENT: Row<'static> = Row {
+    sent: b"{\"method\":\"org.varlink.service.GetInterfaceDescription\",\"parameters\":{\"interface\":\"a.b\"}}\0",
+    status: 3,
+    line: "no description",
+    ..TYPED
+};
+
+#[test]
+fn replies_of_a_typed_call_are_read(rt: HostRuntime) {
+    let rows = [
+        Row {
+            links: &[
+                b"{\"parameters\":{\"description\":\"interface a.b method C() -> (total: int)\"}}\0{\"parameters\":{\"total\":5}}\0",
+            ],
+            output: b"{\"parameters\":{\"total\":5}}\n",
+            ..TYPED
+        },
+        Row {
+            links: &[
+                b"{\"parameters\":{\"description\":\"interface a.b method C() -> (total: int)\"}}\0{\"parameters\":{\"total\":\"x\"}}\0",
+            ],
+            status: 3,
+            line: "reply 0 is ill typed at total",
+            ..TYPED
+        },
+        Row {
+            links: &[b"{\"parameters\":{}}\0{\"parameters\":{\"total\":5}}\0"],
+            ..UNSENT
+        },
+        Row {
+            links: &[b""],
+            ..UNSENT
+        },
+        Row {
+            words: "call --typed --at unix:/a C",
+            links: &[b"{}\0"],
+            sent: b"",
+            ..UNSENT
+        },
+    ];
+    assert!(rt; are_right(rt.alloc(), &rows));
+}
+
 #[test]
 fn an_error_is_printed_and_told(rt: HostRuntime) {
     let error = b"{\"error\":\"a.b.E\"}\0";

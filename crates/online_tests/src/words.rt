@@ -15,7 +15,7 @@ const WORDS: [&str; 20] = [
     "call --at unix:/a a.b.C {} x",
     "call --at unix:/a --child x a.b.C",
     "call --at unix:/a --at unix:/b a.b.C",
-    "call --at unix:/a --typed a.b.C",
+    "call --at unix:/a --typed --typed a.b.C",
     "resolve a.b",
     "resolve --resolver unix:/r",
     "resolve --resolver unix:/r a.b c.d",

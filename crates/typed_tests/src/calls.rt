@@ -24,6 +24,9 @@ const ADD: &[u8] = b"{\"method\":\"a.b.Add\",\"parameters\":{\"interface\":\"a.b
 const ADD_MORE: &[u8] =
     b"{\"method\":\"a.b.Add\",\"more\":true,\"parameters\":{\"interface\":\"a.b\"}}\0";
 
+/// Nothing was sent.
+const NONE: &[&[u8]] = &[];
+
 /// The word of a call, whether it asks for more, and what a peer says.
 #[derive(Clone, Copy)]
 struct Asked<'a> {
@@ -120,26 +123,39 @@ fn said(why: &NoDescription) -> &str {
     }
 }
 
-// Whether the first deed is that link, and of the others the sent ones are these.
-fn are_sent(deeds: &[Deed], program: Option<&str>, wants: &[&[u8]]) -> bool {
-    let mut at = 0;
-    let mut right = true;
-    'deeds: for deed in deeds {
-        match deed {
-            Deed::Sent { bytes, .. } => {
-                right = right && at < wants.len() && wants[at] == bytes.as_slice();
-                at += 1;
-            }
-            Deed::Dialled(Address::Unix(path)) => {
-                right = right && program.is_none() && path.as_str() == "/a";
-            }
-            Deed::Started { program: name, .. } => {
-                right = right && program == Some(name.as_str());
-            }
-            _ => {}
-        }
+// Whether the first deed opens the link, at `/a` or by that program.
+fn is_opened(deeds: &[Deed], program: Option<&str>) -> bool {
+    match deeds {
+        [Deed::Dialled(Address::Unix(path)), ..] => program.is_none() && path.as_str() == "/a",
+        [Deed::Started { program: name, .. }, ..] => program == Some(name.as_str()),
+        _ => false,
     }
-    right && at == wants.len()
+}
+
+// What a deed sends, if it does.
+fn sent_by(deed: &Deed) -> Option<&[u8]> {
+    match deed {
+        Deed::Sent { bytes, .. } => Some(bytes.as_slice()),
+        _ => None,
+    }
+}
+
+// Whether these are all that was sent, in order.
+fn are_sent(deeds: &[Deed], wanted: &[&[u8]]) -> bool {
+    let mut left = wanted;
+    for deed in deeds {
+        let Some(bytes) = sent_by(deed) else {
+            continue;
+        };
+        let [first, rest @ ..] = left else {
+            return false;
+        };
+        if *first != bytes {
+            return false;
+        }
+        left = rest;
+    }
+    left.is_empty()
 }
 
 // How a call over this reach ends, directly or over a bridge.
@@ -192,7 +208,7 @@ fn comes_to(alloc: Global, asked: &Asked<'_>, program: Option<&str>, want: &Want
     let right = match one_link(alloc, asked.says) {
         Ok(mut reach) => {
             let passed = passes_on(alloc, &mut reach, program, &call, want);
-            let done = are_sent(reach.deeds(), program, want.sent);
+            let done = is_opened(reach.deeds(), program) && are_sent(reach.deeds(), want.sent);
             drop(reach);
             passed && done
         }
@@ -304,7 +320,7 @@ fn a_word_without_a_dot_names_no_method(rt: HostRuntime) {
     let want = Wanted {
         end: ("no method", 0),
         lines: b"",
-        sent: &[],
+        sent: NONE,
     };
     assert!(rt; comes_to(rt.alloc(), &asked, None, &want));
 }

@@ -22,7 +22,7 @@ use link_port::{Files, Sink, Source, Text};
 use std::alloc::Global;
 
 /// The words of the commands, one a line.
-const HELP: &str = "check\nformat\nsheet\nsession\nhelp\ncompat\n";
+const HELP: &str = "check\nformat\nsheet\nsession\nhelp\ncall\nresolve\ncompat\n";
 
 /// Runs the command that these words mean, and gives the status to end with.
 ///
@@ -32,7 +32,7 @@ const HELP: &str = "check\nformat\nsheet\nsession\nhelp\ncompat\n";
 /// canonical text. `sheet PATH` tells how many interfaces, registers and rules the sheet in that file has.
 /// `compat OLD NEW` prints `compatible` where the definition in the file NEW can take the place of the one in
 /// the file OLD, and else tells the first difference, status 10; both files are read before what they hold is.
-/// `help` prints the words of the commands.
+/// `help` prints the words of the commands, those of the network too.
 /// All other words are bad words, status 1. A fault is told by a line in the sink of
 /// faults; that the line cannot be written changes nothing. The call always returns, and takes at most
 /// 2^40 bytes.

@@ -50,6 +50,9 @@ enum By {
     Bridge,
 }
 
+/// Nothing was done.
+const NOTHING: &[(&str, u64, &[u8])] = &[];
+
 /// A call, what the peers of the first two links say, and which calls of the reach and puts of the sink fail.
 #[derive(Clone, Copy)]
 struct Way<'a> {
@@ -428,7 +431,7 @@ fn nobody_is_asked_for_a_word_without_a_dot(rt: HostRuntime) {
     let told = Wanted {
         end: ("unresolved", "Ping", 0),
         lines: b"{\"error\":\"org.varlink.service.InterfaceNotFound\",\"parameters\":{\"interface\":\"Ping\"}}\n",
-        deeds: &[],
+        deeds: NOTHING,
     };
     let silent = Wanted { lines: b"", ..told };
     assert!(rt; comes_to(rt.alloc(), &calls("Ping", false, (FOUND, TOTAL)), &told));
@@ -573,7 +576,7 @@ fn an_output_that_fails_is_a_write_fault(rt: HostRuntime) {
     let want = Wanted {
         end: ("write fault", "", 0),
         lines: b"",
-        deeds: &[],
+        deeds: NOTHING,
     };
     let way = Way {
         failing_puts: &[0],
