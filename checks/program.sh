@@ -46,12 +46,14 @@ expect_unwritten() {
     : >"$work/out"
     timeout 60 "$program" "$@" <"$work/in" >/dev/full 2>"$work/err"
     compare "$name, a full device" 6 - "$line" $?
+    exec 3> >(:)
+    wait $! # its reader is gone
     (
         trap '' PIPE
-        timeout 60 "$program" "$@" <"$work/in" 2>"$work/err"
-        echo $? >"$work/status"
-    ) | : # a reader that is gone
-    compare "$name, a closed pipe" 6 - "$line" "$(cat "$work/status")"
+        timeout 60 "$program" "$@" <"$work/in" >&3 2>"$work/err"
+    )
+    compare "$name, a closed pipe" 6 - "$line" $?
+    exec 3>&-
     timeout 60 "$program" "$@" <"$work/in" >&- 2>"$work/err"
     compare "$name, a closed output" 6 - "$line" $?
 }
@@ -198,6 +200,86 @@ expect 'a sheet of 16,777,216 bytes' 0 "$work/counts" - sheet "$work/longest" </
 expect 'a sheet of 16,777,217 bytes' 2 - "$work/longer is too long" sheet "$work/longer" </dev/null
 : >"$work/in"
 expect_unwritten sheet 'write fault' sheet "$sheet"
+
+# ---- call and resolve
+
+# A run with these words against a peer at the socket `peer`, which is to be asked what the file `asked` holds, and says these
+# texts between `|`, one to each connection. `~` stands for NUL.
+expect_peer() {
+    local name=$1 status=$2 output=$3 line=$4 says=$5
+    shift 5
+    rm -f "$work/peer"
+    mapfile -t -d '|' sayings < <(printf '%s|' "$says")
+    "$top/checks/peer.py" "$work/peer" "${sayings[@]}" >"$work/heard" &
+    local peer=$!
+    for _ in $(seq 200); do
+        [ -S "$work/peer" ] && break
+        sleep 0.05
+    done
+    expect "$name" "$status" "$output" "$line" "$@" </dev/null
+    wait "$peer"
+    local heard=$?
+    cp "$work/heard" "$work/out"
+    : >"$work/err"
+    compare "$name, what was asked" 0 "$work/asked" - "$heard"
+}
+
+at=unix:$work/peer
+echo '{"method":"org.example.count.Add","parameters":{"amount":5}}~' >"$work/asked"
+add=(call --at "$at" org.example.count.Add '{"amount":5}')
+echo '{"parameters":{"total":5}}' >"$work/replies"
+expect_peer 'a call' 0 "$work/replies" - '{"parameters":{"total":5}}~' "${add[@]}"
+expect_peer 'a call and a peer that closes' 3 - 'ended before reply 0' '' "${add[@]}"
+expect_peer 'a call and a reply that is cut' 3 - 'ended before reply 0' '{}' "${add[@]}"
+expect_peer 'a call and no reply' 3 - 'reply 0 is no reply' '[]~' "${add[@]}"
+expect_peer 'a call and more than was asked for' 3 - 'reply 0 continues' '{"continues":true}~{}~' "${add[@]}"
+echo '{"error":"org.example.count.Negative","parameters":{"amount":-1}}' >"$work/replies"
+expect_peer 'a call and an error' 4 "$work/replies" 'error org.example.count.Negative' \
+    '{"error":"org.example.count.Negative","parameters":{"amount":-1}}~' "${add[@]}"
+echo '{"method":"org.example.count.List","more":true,"parameters":{}}~' >"$work/asked"
+printf '%s\n' '{"continues":true}' '{}' >"$work/replies"
+expect_peer 'a call for more' 0 "$work/replies" - '{"continues":true}~{}~' call --more --at "$at" org.example.count.List
+echo '{"method":"org.example.count.List","oneway":true,"parameters":{}}~' >"$work/asked"
+expect_peer 'a oneway call' 0 - - '' call --oneway --at "$at" org.example.count.List
+
+ask='{"method":"org.varlink.resolver.Resolve","parameters":{"interface":"org.example.count"}}~'
+missing='{"error":"org.varlink.resolver.InterfaceNotFound","parameters":{"interface":"org.example.count"}}~'
+echo "$ask" >"$work/asked"
+resolve=(resolve --resolver "$at" org.example.count)
+echo 'unix:/run/org.example.count' >"$work/replies"
+expect_peer 'an address' 0 "$work/replies" - '{"parameters":{"address":"unix:/run/org.example.count;mode=0666"}}~' "${resolve[@]}"
+expect_peer 'an interface that nobody has' 9 - 'no address of org.example.count' "$missing" "${resolve[@]}"
+expect_peer 'a bad resolver' 3 - 'bad resolver' '{}~' "${resolve[@]}"
+echo '{"error":"org.varlink.service.InterfaceNotFound","parameters":{"interface":"org.example.count"}}' >"$work/replies"
+expect_peer 'a call of an interface that nobody has' 9 "$work/replies" 'no address of org.example.count' "$missing" \
+    call --resolver "$at" org.example.count.Add
+expect_peer 'a call and a bad resolver' 3 - 'bad resolver' '{}~' call --resolver "$at" org.example.count.Add
+{ echo "$ask"; echo '{"method":"org.example.count.Add","parameters":{"amount":5}}~'; } >"$work/asked"
+echo '{"parameters":{"total":5}}' >"$work/replies"
+expect_peer 'a call where the resolver says' 0 "$work/replies" - \
+    "{\"parameters\":{\"address\":\"$at\"}}~|{\"parameters\":{\"total\":5}}~" \
+    call --resolver "$at" org.example.count.Add '{"amount":5}'
+
+# over a bridge: a program that says what it is told, and then the reply
+printf '#!/bin/sh\necho "$@" >"%s"\nprintf "{}\\0"\ncat >/dev/null\n' "$work/told" >"$work/bridge"
+chmod +x "$work/bridge"
+echo '{}' >"$work/replies"
+expect 'a call over a bridge' 0 "$work/replies" - call --resolver unix:/r --child "$work/bridge" a.b.C </dev/null
+echo 'bridge --resolver unix:/r' >"$work/replies"
+cp "$work/told" "$work/out"
+: >"$work/err"
+compare 'what the bridge is told' 0 "$work/replies" - 0
+expect 'a bridge that is missing' 5 - 'link fault' call --resolver unix:/r --child "$work/missing" a.b.C </dev/null
+
+rm -f "$work/peer"
+expect 'a call where nobody listens' 5 - 'link fault' "${add[@]}" </dev/null
+expect 'a resolver that does not listen' 5 - 'link fault' "${resolve[@]}" </dev/null
+for words in "call" "call a.b.C" "call --at $at" "call --at unix: a.b.C" "call --at $at a.b.C [1]" \
+    "resolve a.b" "resolve --resolver $at a.b c.d" "serve $at s.json" "resolver $at r.json" "bridge --to $at"; do
+    # shellcheck disable=SC2086
+    expect "the words '$words'" 1 - 'bad words' $words </dev/null
+done
+expect 'a parameter that is no whole number' 1 - 'bad words' call --at "$at" a.b.C '{"x":1.5}' </dev/null
 
 echo "program: $passed passed, $failed failed"
 [ "$failed" = 0 ]

@@ -101,14 +101,25 @@ fn replies_of_a_typed_call_are_read(rt: HostRuntime) {
 #[test]
 fn an_error_is_printed_and_told(rt: HostRuntime) {
     let error = b"{\"error\":\"a.b.E\"}\0";
-    let row = Row {
-        links: &[error],
-        output: b"{\"error\":\"a.b.E\"}\n",
-        status: 4,
-        line: "error a.b.E",
-        ..CALL
-    };
-    assert!(rt; are_right(rt.alloc(), &[row]));
+    let rows = [
+        Row {
+            links: &[error],
+            output: b"{\"error\":\"a.b.E\"}\n",
+            status: 4,
+            line: "error a.b.E",
+            ..CALL
+        },
+        Row {
+            words: "call --at unix:/a org.example.count.List",
+            links: &[b"{\"error\":\"org.varlink.service.ExpectedMore\",\"parameters\":{}}\0"],
+            sent: b"{\"method\":\"org.example.count.List\",\"parameters\":{}}\0",
+            output: b"{\"error\":\"org.varlink.service.ExpectedMore\",\"parameters\":{}}\n",
+            status: 4,
+            line: "error org.varlink.service.ExpectedMore",
+            ..CALL
+        },
+    ];
+    assert!(rt; are_right(rt.alloc(), &rows));
 }
 
 #[test]

@@ -1,0 +1,98 @@
+#!/usr/bin/env python3
+"""Measures `call` of the built program over a Unix socket.
+
+Usage: bench/calls.py [PROGRAM]     (default: crates/varlink/out/varlink, built by ./varlink)
+
+A service of the bench's own streams replies to one call. It prints how long `call --more` takes to pass on 100,000 and a
+million of them, how long a plain copy of the same bytes from the same socket to the same place takes, the ratio, the peak
+memory of each run, and what one call of one reply costs from start to end. With `--typed` the replies are read before.
+"""
+import os
+import socket
+import subprocess
+import sys
+import tempfile
+import threading
+import time
+
+TOP = os.path.dirname(os.path.dirname(os.path.abspath(__file__)))
+DEFINITION = b'{"parameters":{"description":"interface a.b method List() -> (done: bool, name: ?string)"}}\0'
+REPLY = b'{"continues":true,"parameters":{"done":false,"name":"an entry"}}\0'
+LAST = b'{"parameters":{"done":true}}\0'
+COPY = """
+import socket, sys, os
+link = socket.socket(socket.AF_UNIX); link.connect(sys.argv[1]); link.sendall(b'{}\\0')
+while True:
+    piece = link.recv(65536)
+    if not piece: break
+    os.write(1, piece)
+"""
+
+
+def serve(path, many):
+    """Serves one connection: the definition to the first of two messages, and the stream to the last."""
+    listener = socket.socket(socket.AF_UNIX)
+    listener.bind(path)
+    listener.listen()
+    blob = REPLY * 1000
+
+    def run():
+        link, _ = listener.accept()
+        held = b""
+        while b"\0" not in held:
+            held += link.recv(4096)
+        if b"GetInterfaceDescription" in held:
+            link.sendall(DEFINITION)
+            while held.count(b"\0") < 2:
+                held += link.recv(4096)
+        try:
+            for _ in range(many // 1000):
+                link.sendall(blob)
+            link.sendall(LAST)
+        except BrokenPipeError:
+            pass
+        link.close()
+        listener.close()
+
+    thread = threading.Thread(target=run)
+    thread.start()
+    return thread
+
+
+def timed(words, path, many, out):
+    thread = serve(path, many)
+    begun = time.monotonic()
+    child = subprocess.Popen(words, stdout=out)
+    _, status, used = os.wait4(child.pid, 0)
+    took = time.monotonic() - begun
+    thread.join()
+    os.unlink(path)
+    if status:
+        sys.exit(f"bench/calls.py: {words[0]} ended with {status}")
+    return took, used.ru_maxrss
+
+
+def main():
+    program = sys.argv[1] if len(sys.argv) > 1 else os.path.join(TOP, "crates/varlink/out/varlink")
+    with tempfile.TemporaryDirectory() as folder:
+        path = os.path.join(folder, "s")
+        call = [program, "call", "--at", "unix:" + path]
+        for many in (100_000, 1_000_000):
+            with open(os.path.join(folder, "out"), "wb") as out:
+                copy, _ = timed([sys.executable, "-c", COPY, path], path, many, out)
+            with open(os.path.join(folder, "out"), "wb") as out:
+                plain, peak = timed([*call, "--more", "a.b.List"], path, many, out)
+            with open(os.path.join(folder, "out"), "rb") as out:
+                lines = out.read().count(b"\n")
+            assert lines == many + 1, lines
+            with open(os.path.join(folder, "out"), "wb") as out:
+                typed, above = timed([*call, "--typed", "--more", "a.b.List"], path, many, out)
+            print(f"{many} replies: copy {copy:.2f} s, call {plain:.2f} s ({plain / copy:.1f} times, peak {peak} KiB), "
+                  f"typed {typed:.2f} s ({typed / copy:.1f} times, peak {above} KiB)")
+        begun, times = time.monotonic(), 50
+        for _ in range(times):
+            timed([*call, "a.b.List"], path, 0, subprocess.DEVNULL)
+        print(f"one call of one reply: {(time.monotonic() - begun) / times * 1000:.1f} ms from start to end")
+
+
+main()
