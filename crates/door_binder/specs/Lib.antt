@@ -1,1 +1,3 @@
 pub mod Binds
+pub mod BoundDoors
+pub mod MemBinders
