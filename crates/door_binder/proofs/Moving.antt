@@ -1,6 +1,6 @@
 -- One item more is moved from the front of what is left.
-use Rattle.std.proofs.Common.{◌≡◌, ℕ, ◌+◌, ◌<◌, List, [], ◌∷◌, ◌++◌, length, get_or, map, take, drop, reverse, refl, ap, sym, ◌∙◌, arith, length-drop, subst}
-use Rattle.std.proofs.Common.{◌≤◌, All, Option, Some, None, length-take}
+use Rattle.std.proofs.Common.{◌≡◌, ℕ, ◌+◌, ◌<◌, List, [], ◌∷◌, ◌++◌, length, get_or, map, take, drop, reverse, refl, ap, sym, ◌∙◌, arith, length-drop}
+use Rattle.std.proofs.Common.{All, Option, Some, None, length-take}
 use Rattle.std.proofs.lemmas.List.{drop_more, map_more, reverse-append}
 use Rattle.std.proofs.lemmas.List.Elements.{All-same, All-map, All-weaker, All-take, All-drop}
 use Rattle.link_doors.specs.Doors.{DoorInMemory, visit_back}

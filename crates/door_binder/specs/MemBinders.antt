@@ -1,6 +1,5 @@
 -- A binder in memory, and what each of its calls does, exactly.
-use Rattle.std.specs.Prelude.{◌≡◌, ◌⊎◌, ◌<◌, ◌≤◌, ℕ, true, false, List, [], ◌∷◌, ◌++◌, length, map, take, drop, Result, Ok, Err}
-use Rattle.std.specs.Prelude.{Vec}
+use Rattle.std.specs.Prelude.{◌≡◌, ◌⊎◌, ◌<◌, ◌≤◌, true, false, List, [], ◌∷◌, ◌++◌, length, map, take, drop, Result, Ok, Err}
 use Rattle.link_port.specs.Planned.{Calls, is_failing, after_call}
 use Rattle.link_doors.specs.Doors.{DoorInMemory}
 use Rattle.link_reach.specs.declared.deeds.DialFault.{DialFault}

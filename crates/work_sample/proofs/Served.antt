@@ -1,5 +1,5 @@
 -- What calls that were served come to.
-use Rattle.std.proofs.Common.{◌≡◌, ℕ, List, [], ◌∷◌, ◌++◌, length, Option, Some, None, Result, Ok, Err, true, refl, ap, sym, ◌∙◌, subst}
+use Rattle.std.proofs.Common.{◌≡◌, ℕ, List, [], ◌++◌, length, Option, Some, None, Result, Ok, Err, true, refl, ap, sym, ◌∙◌, subst}
 use Rattle.std.proofs.lemmas.List.{append-nil}
 use Rattle.std.specs.Prelude.{ℤ}
 use Rattle.call_form.specs.declared.Call.{Call}
@@ -18,7 +18,7 @@ use Rattle.service_core.specs.Tells.{started, tell_of, lone}
 use Rattle.work_sample.specs.declared.works.Ended.{Ended}
 use Rattle.work_sample.specs.declared.works.WorkFault.{WorkFault}
 use Rattle.work_sample.specs.declared.works.WorkFault.TheVariants as fault
-use Rattle.work_sample.specs.Works.{Works, Serves, EndsWith, IsEnded, HasNoTotal, StopsEarly, registers_after, total_of, with_total, ended_of, is_early}
+use Rattle.work_sample.specs.Works.{Works, Serves, EndsWith, StopsEarly, registers_after, total_of, with_total, ended_of, is_early}
 
 -- ---- calls in a row
 

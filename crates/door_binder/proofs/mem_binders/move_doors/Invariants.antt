@@ -1,4 +1,4 @@
-use Rattle.std.proofs.Common.{◌≡◌, ◌≤◌, length, map, take, drop, reverse, vec_capacity}
+use Rattle.std.proofs.Common.{◌≡◌, ◌≤◌, map, take, drop, reverse, vec_capacity}
 use Rattle.door_binder.specs.BoundDoors.{cut}
 use Rattle.door_binder.proofs.mem_binders.move_doors.Given as goal
 

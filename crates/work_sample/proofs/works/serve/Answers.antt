@@ -1,5 +1,4 @@
-use Rattle.std.proofs.Common.{ap, sym, ◌∙◌}
-use Rattle.std.proofs.Common.{List, ℕ}
+use Rattle.std.proofs.Common.{ap}
 use Rattle.work_sample.specs.Sinks.{Growing}
 use Rattle.work_sample.proofs.Served.{serves, same-ok}
 use Rattle.work_sample.proofs.works.serve.Goals as goal
