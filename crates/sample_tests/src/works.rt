@@ -95,3 +95,8 @@ fn the_work_comes_to_its_numbers(rt: HostRuntime) {
     let ten = comes_to(rt.alloc(), 10, (338, 541, 237), 45);
     assert!(rt; one && three && ten);
 }
+
+#[test]
+fn the_most_methods_come_to_their_numbers(rt: HostRuntime) {
+    assert!(rt; comes_to(rt.alloc(), 10000, (338921, 568894, 267528), 45000));
+}
