@@ -33,3 +33,7 @@ board_pass_send L l = pass_send board.the_row L request.the_row board_send l
 
 pub board_desk_sync : (L : RattleType) (h : ledger.Ghosts L.Denot request.the_row.Denot) → IsSend L → IsSync (desk.the_row board.the_row L request.the_row done.the_row ghosts h)
 board_desk_sync L h l = desk_sync board.the_row L request.the_row done.the_row ghosts h board_send l
+
+-- The same where a struct lends a service: so a search for that struct finds it.
+pub service_field_sync : IsSync (service.the_field).row
+service_field_sync = search (sendable, crosses, sheet_send, sheet_sync, text_sync, list_sync) depth 20
