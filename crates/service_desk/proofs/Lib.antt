@@ -1,6 +1,6 @@
 mod Stepping
 mod Rows
-mod Hearing
+pub mod Hearing
 mod Answering
 pub mod SetSharing
 pub mod SheetSharing

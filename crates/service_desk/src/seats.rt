@@ -1,5 +1,5 @@
 //! A connection's seat at the desk of a service.
-ghost use Rattle.std.specs.Prelude.{◌≡◌, Ok, IfOk, IfErr};
+ghost use Rattle.std.specs.Prelude.{◌≡◌, ◌≤◌, Ok, IfOk, IfErr};
 ghost use Rattle.call_form.specs.CallOf.{IsObject};
 ghost use Rattle.session_core.specs.Outcomes.{Fits};
 ghost use Rattle.turn_desk.specs.Passes.{IsOf, all_asks};
@@ -146,6 +146,7 @@ impl<'a, L: Ledger<Request>> Seated<'a, L> {
     pub fn leave(self) -> Pass<Board, L>
         ensures pass { result ≡ self.entry.pass }
         ensures desk { IsOf self.entry.desk result }
+        ensures made { self.entry.made ≤ result.asked }
     {
         let Seated {
             service: _,
