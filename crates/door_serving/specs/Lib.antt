@@ -1,0 +1,4 @@
+pub mod Stops
+pub mod Conversations
+pub mod Attended
+pub mod Resolving
