@@ -5,7 +5,8 @@ Usage: bench/calls.py [PROGRAM]     (default: crates/varlink/out/varlink, built 
 
 A service of the bench's own streams replies to one call. It prints how long `call --more` takes to pass on 100,000 and a
 million of them, how long a plain copy of the same bytes from the same socket to the same place takes, the ratio, the peak
-memory of each run, and what one call of one reply costs from start to end. With `--typed` the replies are read before.
+memory of each run, and what one call of one reply costs from start to end. With `--typed` the replies are read before. What
+a run of no replies takes, which is mostly the start of a program, is taken off each time.
 """
 import os
 import socket
@@ -63,13 +64,37 @@ def timed(words, path, many, out):
     thread = serve(path, many)
     begun = time.monotonic()
     child = subprocess.Popen(words, stdout=out)
-    _, status, used = os.wait4(child.pid, 0)
+    peak = [0]
+    watch = threading.Thread(target=watched, args=(child.pid, peak))
+    watch.start()
+    status = child.wait()
     took = time.monotonic() - begun
+    watch.join()
     thread.join()
     os.unlink(path)
     if status:
         sys.exit(f"bench/calls.py: {words[0]} ended with {status}")
-    return took, used.ru_maxrss
+    return took, peak[0]
+
+
+def watched(pid, peak):
+    """Keeps the greatest resident size that the program has had, as long as it runs."""
+    while True:
+        try:
+            with open(f"/proc/{pid}/status") as status:
+                sizes = [line for line in status if line.startswith("VmHWM")]
+        except OSError:
+            return
+        if not sizes:
+            return
+        peak[0] = max(peak[0], int(sizes[0].split()[1]))
+        time.sleep(0.005)
+
+
+def least(words, path, many, out):
+    """The least time of three runs, and the greatest size."""
+    runs = [timed(words, path, many, out) for _ in range(3)]
+    return min(run[0] for run in runs), max(run[1] for run in runs)
 
 
 def main():
@@ -77,18 +102,23 @@ def main():
     with tempfile.TemporaryDirectory() as folder:
         path = os.path.join(folder, "s")
         call = [program, "call", "--at", "unix:" + path]
+        copy = [sys.executable, "-c", COPY, path]
+        plain = [*call, "--more", "a.b.List"]
+        typed = [*call, "--typed", "--more", "a.b.List"]
+        with open(os.path.join(folder, "out"), "wb") as out:
+            starts = [least(words, path, 0, out)[0] for words in (copy, plain, typed)]
         for many in (100_000, 1_000_000):
-            with open(os.path.join(folder, "out"), "wb") as out:
-                copy, _ = timed([sys.executable, "-c", COPY, path], path, many, out)
-            with open(os.path.join(folder, "out"), "wb") as out:
-                plain, peak = timed([*call, "--more", "a.b.List"], path, many, out)
+            runs = []
+            for words, start in zip((copy, plain, typed), starts):
+                with open(os.path.join(folder, "out"), "wb") as out:
+                    took, peak = least(words, path, many, out)
+                runs.append((took - start, peak))
             with open(os.path.join(folder, "out"), "rb") as out:
                 lines = out.read().count(b"\n")
-            assert lines == many + 1, lines
-            with open(os.path.join(folder, "out"), "wb") as out:
-                typed, above = timed([*call, "--typed", "--more", "a.b.List"], path, many, out)
-            print(f"{many} replies: copy {copy:.2f} s, call {plain:.2f} s ({plain / copy:.1f} times, peak {peak} KiB), "
-                  f"typed {typed:.2f} s ({typed / copy:.1f} times, peak {above} KiB)")
+            assert lines == 3 * (many + 1), lines
+            print(f"{many} replies: copy {runs[0][0]:.3f} s, " + ", ".join(
+                f"{name} {took:.3f} s ({took / runs[0][0]:.1f} times, peak {peak} KiB)"
+                for name, (took, peak) in zip(("call", "typed"), runs[1:])))
         begun, times = time.monotonic(), 50
         for _ in range(times):
             timed([*call, "a.b.List"], path, 0, subprocess.DEVNULL)
