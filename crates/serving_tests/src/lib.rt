@@ -11,3 +11,5 @@ mod registries;
 mod seats;
 #[cfg(test)]
 mod sheets;
+#[cfg(test)]
+mod waiting;

@@ -1,0 +1,5 @@
+mod Counting
+mod Lists
+mod Leaving
+mod Sharing
+mod Numbering

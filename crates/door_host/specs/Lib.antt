@@ -1,0 +1,5 @@
+pub mod Doors
+pub mod Hosts
+pub mod Rounds
+pub mod Resolvers
+pub mod Porters
