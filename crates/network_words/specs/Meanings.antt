@@ -1,6 +1,6 @@
 -- What the words of a command line mean where the first is that of a command that needs the network. All words that are not
 -- of one of the forms mean no command.
-use Rattle.std.specs.Prelude.{◌≡◌, ◌&&◌, ℕ, Bool, true, false, List, [], ◌∷◌, if◌then◌else◌, Option, Some, None, is_some, option_map, option_and_then, Result, Ok, Err, ⊤}
+use Rattle.std.specs.Prelude.{◌≡◌, ◌&&◌, ◌≤◌, ℕ, Bool, true, false, List, [], ◌∷◌, if◌then◌else◌, Option, Some, None, is_some, option_map, option_and_then, Result, Ok, Err, ⊤}
 use Rattle.serde_json.specs.Data.{Data, object, no_members}
 use Rattle.serde_json.specs.Read.{read}
 use Rattle.serde_json.specs.Find.{as_object}
@@ -117,11 +117,17 @@ abbrev pub Means : {A : Type 0} → Result (Option A) Memory → Option A → Ty
 Means (Ok found) there = found ≡ there
 Means (Err stop) there = ⊤
 
--- the call of a command can be sent
-abbrev pub IsSent : Network → Type 0
-IsSent (net.Call by call typed) = IsSendable call
-IsSent other = ⊤
+-- there is a worker, and at most 64 are
+abbrev pub HasWorkers : Serving → Type 0
+HasWorkers what = (1 ≤ what.workers) × (what.workers ≤ 64)
 
-abbrev pub HasSendable : Option Network → Type 0
-HasSendable (Some command) = IsSent command
-HasSendable None = ⊤
+-- the call of a command can be sent, and a command that serves has workers
+abbrev pub IsRunnable : Network → Type 0
+IsRunnable (net.Call by call typed) = IsSendable call
+IsRunnable (net.Serve what forgets) = HasWorkers what
+IsRunnable (net.Resolver what) = HasWorkers what
+IsRunnable other = ⊤
+
+abbrev pub HasRunnable : Option Network → Type 0
+HasRunnable (Some command) = IsRunnable command
+HasRunnable None = ⊤

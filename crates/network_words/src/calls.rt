@@ -3,7 +3,7 @@ ghost use Rattle.std.specs.Prelude.{◌≡◌, option_map, IfOk, IfSome};
 ghost use Rattle.call_form.specs.CallOf.{IsObject};
 ghost use Rattle.call_form.specs.CallText.{IsSendable};
 ghost use Rattle.link_port.specs.SoundTrees.{IsSound, HasUtf8};
-ghost use Rattle.network_words.specs.Meanings.{Means, HasSendable, by_kind, call_with, child, parameters_of, way_of};
+ghost use Rattle.network_words.specs.Meanings.{Means, HasRunnable, by_kind, call_with, child, parameters_of, way_of};
 ghost use Rattle.network_words.specs.declared.settings.Kind.TheVariants as command;
 
 use crate::given::Given;
@@ -17,7 +17,7 @@ use typed_value::has_only_ints;
 /// The call of a method by a way.
 pub(crate) fn call(alloc: Global, given: &Given<'_>) -> Result<Option<Network>, Memory>
     ensures meaning { Means result (by_kind command.Call given.now) }
-    ensures sendable { IfOk result HasSendable }
+    ensures runnable { IfOk result HasRunnable }
 {
     let Some(method) = given.first else {
         return Ok(None);
@@ -45,7 +45,7 @@ pub(crate) fn call(alloc: Global, given: &Given<'_>) -> Result<Option<Network>, 
 // The call itself.
 fn made(alloc: Global, given: &Given<'_>, method: &str) -> Result<Option<Call>, Memory>
     ensures call { Means result (call_with given.now method.now) }
-    ensures sendable { IfOk result (λ found. IfSome found (λ call. IsSendable call)) }
+    ensures runnable { IfOk result (λ found. IfSome found (λ call. IsSendable call)) }
 {
     let method = Text::of(alloc, method)?;
     match parameters(alloc, given.second) {

@@ -9,3 +9,4 @@ mod numbers;
 mod settings;
 
 pub use meanings::{Network, Serving, Target, Way, is_network, network_of};
+pub use numbers::number_to;

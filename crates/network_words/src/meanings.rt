@@ -1,6 +1,6 @@
 // What words mean.
-ghost use Rattle.std.specs.Prelude.{◌≡◌, option_map, IfOk};
-ghost use Rattle.network_words.specs.Meanings.{network, is_network, Means, HasSendable, by_kind, served, number_or, number_if};
+ghost use Rattle.std.specs.Prelude.{◌≡◌, ◌≤◌, option_map, IfOk, IfSome};
+ghost use Rattle.network_words.specs.Meanings.{network, is_network, Means, HasRunnable, HasWorkers, by_kind, served, number_or, number_if};
 ghost use Rattle.link_doors.specs.Addresses.{address_of};
 ghost use Rattle.network_words.specs.declared.settings.Kind.TheVariants as command;
 
@@ -102,11 +102,12 @@ pub fn is_network(words: &[Text]) -> bool
     }
 }
 
-/// The command that these words mean, and None exactly where they mean none. The parameters of a call are sendable.
+/// The command that these words mean, and None exactly where they mean none. The parameters of a call are
+/// sendable, and a service has 1 to 64 workers.
 #[tactic(auto, unfolding(crate::specs::Meanings::network))]
 pub fn network_of(alloc: Global, words: &[Text]) -> Result<Option<Network>, Memory>
     ensures meaning { Means result (network words.now) }
-    ensures sendable { IfOk result HasSendable }
+    ensures runnable { IfOk result HasRunnable }
 {
     let [word, rest @ ..] = words else {
         return Ok(None);
@@ -123,7 +124,7 @@ pub fn network_of(alloc: Global, words: &[Text]) -> Result<Option<Network>, Memo
 // The command of this kind.
 fn by_kind(alloc: Global, kind: Kind, given: &Given<'_>) -> Result<Option<Network>, Memory>
     ensures meaning { Means result (by_kind kind given.now) }
-    ensures sendable { IfOk result HasSendable }
+    ensures runnable { IfOk result HasRunnable }
 {
     match kind {
         Kind::Serve => serve(alloc, given),
@@ -136,7 +137,7 @@ fn by_kind(alloc: Global, kind: Kind, given: &Given<'_>) -> Result<Option<Networ
 
 fn serve(alloc: Global, given: &Given<'_>) -> Result<Option<Network>, Memory>
     ensures meaning { Means result (by_kind command.Serve given.now) }
-    ensures sendable { IfOk result HasSendable }
+    ensures runnable { IfOk result HasRunnable }
 {
     let forgets = given.forget;
     match what_is_served(alloc, given)? {
@@ -147,7 +148,7 @@ fn serve(alloc: Global, given: &Given<'_>) -> Result<Option<Network>, Memory>
 
 fn resolver(alloc: Global, given: &Given<'_>) -> Result<Option<Network>, Memory>
     ensures meaning { Means result (by_kind command.Resolver given.now) }
-    ensures sendable { IfOk result HasSendable }
+    ensures runnable { IfOk result HasRunnable }
 {
     match what_is_served(alloc, given)? {
         Some(serving) => Ok(Some(Network::Resolver(serving))),
@@ -157,7 +158,8 @@ fn resolver(alloc: Global, given: &Given<'_>) -> Result<Option<Network>, Memory>
 
 // What is served, and where.
 fn what_is_served(alloc: Global, given: &Given<'_>) -> Result<Option<Serving>, Memory>
-    ensures { Means result (served given.now) }
+    ensures meaning { Means result (served given.now) }
+    ensures workers { IfOk result (λ found. IfSome found HasWorkers) }
 {
     let (Some(address), Some(path)) = (given.first, given.second) else {
         return Ok(None);
@@ -189,7 +191,9 @@ fn what_is_served(alloc: Global, given: &Given<'_>) -> Result<Option<Serving>, M
 
 // The number that was asked for, or this one where none was.
 fn number_or(usual: u64, most: u64, word: Option<&str>) -> Option<u64>
-    ensures { result ≡ number_or usual most (option_map (λ text. text.now) word.entry) }
+    requires { (1 ≤ usual) × (usual ≤ most) }
+    ensures within { IfSome result (λ number. (1 ≤ number) × (number ≤ most)) }
+    ensures meaning { result ≡ number_or usual most (option_map (λ text. text.now) word.entry) }
 {
     match word {
         Some(word) => number_to(most, word),
@@ -223,7 +227,7 @@ pub(crate) fn address_of(alloc: Global, word: &str) -> Result<Option<Address>, M
 
 fn resolve(alloc: Global, given: &Given<'_>) -> Result<Option<Network>, Memory>
     ensures meaning { Means result (by_kind command.Resolve given.now) }
-    ensures sendable { IfOk result HasSendable }
+    ensures runnable { IfOk result HasRunnable }
 {
     let (Some(resolver), Some(interface), None) = (given.resolver, given.first, given.second) else {
         return Ok(None);
@@ -247,7 +251,7 @@ fn resolve(alloc: Global, given: &Given<'_>) -> Result<Option<Network>, Memory>
 
 fn bridge(alloc: Global, given: &Given<'_>) -> Result<Option<Network>, Memory>
     ensures meaning { Means result (by_kind command.Bridge given.now) }
-    ensures sendable { IfOk result HasSendable }
+    ensures runnable { IfOk result HasRunnable }
 {
     match (given.to, given.resolver, given.first) {
         (Some(to), None, None) => match address_of(alloc, to)? {
