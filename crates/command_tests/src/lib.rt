@@ -19,3 +19,5 @@ mod sessions;
 mod sheets;
 #[cfg(test)]
 mod words;
+#[cfg(test)]
+mod works;

@@ -2,7 +2,7 @@
 use crate::rows::{NOTHING, Row, are_right};
 use std::alloc::Global;
 
-const WORDS: [&[&str]; 11] = [
+const WORDS: [&[&str]; 18] = [
     &[],
     &["check"],
     &["Session"],
@@ -14,6 +14,13 @@ const WORDS: [&[&str]; 11] = [
     &["compat", "d", "--n"],
     &["check", "d", "n"],
     &["--help"],
+    &["work"],
+    &["work", "0"],
+    &["work", "03"],
+    &["work", "+3"],
+    &["work", "10001"],
+    &["work", "3", "3"],
+    &["work", "x"],
 ];
 
 fn are_bad(alloc: Global, each: &[&[&str]]) -> bool {
@@ -35,7 +42,7 @@ fn are_bad(alloc: Global, each: &[&[&str]]) -> bool {
 /// The words of the commands are printed.
 const HELP: Row<'static> = Row {
     words: &["help"],
-    output: b"check\nformat\nsheet\nsession\nhelp\ncall\nresolve\ncompat\n",
+    output: b"check\nformat\nsheet\nsession\nwork\nhelp\nserve\nresolver\ncall\nresolve\ncompat\n",
     ..NOTHING
 };
 

@@ -5,3 +5,4 @@ pub mod Counting
 pub mod Reasons
 pub mod ReadingBoth
 pub mod Refusing
+pub mod WorkLines

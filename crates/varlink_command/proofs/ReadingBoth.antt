@@ -18,6 +18,7 @@ reads-both old new old_text new_text (Err fault.BadWords) a b are = absurd are
 reads-both old new old_text new_text (Err (fault.Unreadable file)) a b are = absurd are
 reads-both old new old_text new_text (Err (fault.PastLimit file)) a b are = absurd are
 reads-both old new old_text new_text (Err (fault.NoSheet why)) a b are = absurd are
+reads-both old new old_text new_text (Err fault.NoWork) a b are = absurd are
 reads-both old new old_text new_text (Err (fault.Incompatible line)) a b are = absurd are
 reads-both old new old_text new_text (Err (fault.Cut bytes)) a b are = absurd are
 reads-both old new old_text new_text (Err (fault.NotCall index)) a b are = absurd are

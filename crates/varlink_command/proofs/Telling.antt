@@ -5,7 +5,7 @@ use Rattle.idl_tree.specs.declared.trees.Interface.{Interface}
 use Rattle.varlink_command.specs.declared.faults.Fault.{Fault}
 use Rattle.varlink_command.specs.declared.showing.Showing.{Showing}
 use Rattle.varlink_command.specs.declared.words.Command.{Command}
-use Rattle.varlink_command.specs.declared.words.Command.TheVariants.{Session, SheetSession, Check, Format, Sheet, Help, Compat}
+use Rattle.varlink_command.specs.declared.words.Command.TheVariants.{Session, SheetSession, Check, Format, Sheet, Work, Help, Compat}
 use Rattle.varlink_command.specs.Comparing.{ComparesFiles, ComparesRead}
 use Rattle.varlink_command.specs.Definitions.{ShowsDefinition, ShowsRead}
 use Rattle.varlink_command.specs.Ends.{Ends, Object}
@@ -13,6 +13,9 @@ use Rattle.varlink_command.specs.Sessions.{ServesRead, ServesSession, ServesShee
 use Rattle.varlink_command.specs.Sheets.{CountsRead, CountsSheet}
 use Rattle.sheet_form.specs.declared.sheets.Contents.{Contents}
 use Rattle.varlink_command.specs.Offline.{Ran}
+use Rattle.varlink_command.specs.Working.{TellsWork, TellsFigures}
+use Rattle.work_sample.specs.declared.works.Figures.{Figures}
+use Rattle.work_sample.specs.declared.works.WorkFault.{WorkFault}
 
 -- the same ends with another sink of faults
 abbrev pub told : Ends → Object → Ends
@@ -83,6 +86,19 @@ serves-told path before after faults outcome served = record {
   serves = serves-read served.read before after faults outcome served.serves;
 }
 
+figures-told : (figures : Result Figures WorkFault) (before after : Ends) (faults : Object) (outcome : Result ⊤ Fault) →
+    TellsFigures figures before after outcome → TellsFigures figures before (told after faults) outcome
+figures-told (Ok figures) before after faults outcome tells = tells
+figures-told (Err why) before after faults outcome tells = tells
+
+work-told : (methods : ℕ) (before after : Ends) (faults : Object) (outcome : Result ⊤ Fault) →
+    TellsWork methods before after outcome → TellsWork methods before (told after faults) outcome
+work-told methods before after faults outcome worked = record {
+  figures = worked.figures;
+  works = worked.works;
+  tells = figures-told worked.figures before after faults outcome worked.tells;
+}
+
 pub Ran-told : (command : Option Command) (path second : List ℕ) (before after : Ends) (faults : Object) (outcome : Result ⊤ Fault) →
     Ran command path second before after outcome → Ran command path second before (told after faults) outcome
 Ran-told None path second before after faults outcome ran = ran
@@ -91,5 +107,6 @@ Ran-told (Some SheetSession) path second before after faults outcome ran = serve
 Ran-told (Some Check) path second before after faults outcome ran = shows-told _ path before after faults outcome ran
 Ran-told (Some Format) path second before after faults outcome ran = shows-told _ path before after faults outcome ran
 Ran-told (Some Sheet) path second before after faults outcome ran = counts-told path before after faults outcome ran
+Ran-told (Some (Work methods)) path second before after faults outcome ran = work-told methods before after faults outcome ran
 Ran-told (Some Help) path second before after faults outcome ran = ran
 Ran-told (Some Compat) path second before after faults outcome ran = compares-told path second before after faults outcome ran

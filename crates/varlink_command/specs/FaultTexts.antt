@@ -57,6 +57,7 @@ fault_text path (fault.Unreadable file) = codes "cannot read " ++ path
 fault_text path (fault.PastLimit file) = path ++ codes " is too long"
 fault_text path (fault.NoDefinition why) = refusal_text why
 fault_text path (fault.NoSheet why) = sheet_text why
+fault_text path fault.NoWork = codes "no work"
 fault_text path (fault.Incompatible line) = line
 fault_text path (fault.Cut bytes) = codes "cut after " ++ decimal bytes ++ codes " bytes"
 fault_text path (fault.NotCall index) = codes "message " ++ decimal index ++ codes " is no call"

@@ -11,6 +11,7 @@ status_of fault.BadWords = 1
 status_of (fault.PastLimit file) = 2
 status_of (fault.NoDefinition why) = 2
 status_of (fault.NoSheet why) = 2
+status_of fault.NoWork = 2
 status_of (fault.Cut bytes) = 3
 status_of (fault.NotCall index) = 3
 status_of (fault.TooLong index) = 3

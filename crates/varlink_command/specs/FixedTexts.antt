@@ -9,7 +9,7 @@ use Rattle.varlink_command.specs.Ends.{Ends}
 
 -- the words of the commands, one a line
 abbrev pub help_text : List ℕ
-help_text = codes "check\nformat\nsheet\nsession\nhelp\ncall\nresolve\ncompat\n"
+help_text = codes "check\nformat\nsheet\nsession\nwork\nhelp\nserve\nresolver\ncall\nresolve\ncompat\n"
 
 -- what is shown where a definition can take another's place
 abbrev pub compatible_text : List ℕ

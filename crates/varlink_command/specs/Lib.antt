@@ -9,4 +9,5 @@ pub mod Offline
 pub mod Sessions
 pub mod Sheets
 pub mod Words
+pub mod Working
 pub mod RealEnds

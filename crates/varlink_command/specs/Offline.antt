@@ -8,7 +8,7 @@ use Rattle.varlink_command.specs.declared.faults.Fault.TheVariants as fault
 use Rattle.varlink_command.specs.declared.faults.Which.TheVariants.{Second}
 use Rattle.varlink_command.specs.declared.showing.Showing.TheVariants as showing
 use Rattle.varlink_command.specs.declared.words.Command.{Command}
-use Rattle.varlink_command.specs.declared.words.Command.TheVariants.{Session, SheetSession, Check, Format, Sheet, Help, Compat}
+use Rattle.varlink_command.specs.declared.words.Command.TheVariants.{Session, SheetSession, Check, Format, Sheet, Work, Help, Compat}
 use Rattle.service_core.specs.Sheets.{bare_sheet}
 use Rattle.varlink_command.specs.Comparing.{ComparesFiles}
 use Rattle.varlink_command.specs.FixedTexts.{ShowsFixed, help_text}
@@ -19,6 +19,7 @@ use Rattle.varlink_command.specs.FaultTexts.{fault_line}
 use Rattle.varlink_command.specs.Sessions.{ServesSession, ServesSheet}
 use Rattle.varlink_command.specs.Sheets.{CountsSheet}
 use Rattle.varlink_command.specs.Words.{command, path_of, second_path_of}
+use Rattle.varlink_command.specs.Working.{TellsWork}
 
 -- what the command on these paths did, and what it came to
 abbrev pub Ran : Option Command → List ℕ → List ℕ → Ends → Ends → Result ⊤ Fault → Type 0
@@ -34,6 +35,8 @@ Ran (Some Check) path second before after outcome = ShowsDefinition showing.Name
 Ran (Some Format) path second before after outcome = ShowsDefinition showing.Text path before after outcome
 -- `sheet PATH`: how much the sheet in that file has
 Ran (Some Sheet) path second before after outcome = CountsSheet path before after outcome
+-- `work N`: what a call of each of N methods comes to
+Ran (Some (Work methods)) path second before after outcome = TellsWork methods before after outcome
 -- `help`: the words of the commands
 Ran (Some Help) path second before after outcome = ShowsFixed help_text before after outcome
 -- `compat OLD NEW`: whether the definition in the second file can take the place of the one in the first

@@ -17,12 +17,14 @@ use crate::serving::{session, sheet_session};
 use crate::sheets::show_counts;
 use crate::showing::{Showing, show};
 use crate::words::{Command, command_of, path_of, second_path_of};
+use crate::working::tell_work;
 use crate::worlds::{Desktop, Status, World};
 use link_port::{Files, Sink, Source, Text};
 use std::alloc::Global;
 
 /// The words of the commands, one a line.
-const HELP: &str = "check\nformat\nsheet\nsession\nhelp\ncall\nresolve\ncompat\n";
+const HELP: &str =
+    "check\nformat\nsheet\nsession\nwork\nhelp\nserve\nresolver\ncall\nresolve\ncompat\n";
 
 /// Runs the command that these words mean, and gives the status to end with.
 ///
@@ -32,6 +34,8 @@ const HELP: &str = "check\nformat\nsheet\nsession\nhelp\ncall\nresolve\ncompat\n
 /// canonical text. `sheet PATH` tells how many interfaces, registers and rules the sheet in that file has.
 /// `compat OLD NEW` prints `compatible` where the definition in the file NEW can take the place of the one in
 /// the file OLD, and else tells the first difference, status 10; both files are read before what they hold is.
+/// `work N` serves a call of each of N methods, N from 1 to 10,000 without a sign or a leading zero, by the sheet
+/// that has them, and prints the lengths of its definition, of the calls and of the replies, and the total.
 /// `help` prints the words of the commands, those of the network too.
 /// All other words are bad words, status 1. A fault is told by a line in the sink of
 /// faults; that the line cannot be written changes nothing. The call always returns, and takes at most
@@ -98,6 +102,7 @@ fn run<S: Source, O: Sink, E: Sink, F: Files>(
         Some(Command::Check) => definition(alloc, Showing::Name, path_of(words), world),
         Some(Command::Format) => definition(alloc, Showing::Text, path_of(words), world),
         Some(Command::Sheet) => sheet(alloc, path_of(words), world),
+        Some(Command::Work(methods)) => tell_work(alloc, methods, world),
         Some(Command::Help) => show_fixed(HELP, &mut world.output),
         Some(Command::Compat) => compat(alloc, path_of(words), second_path_of(words), world),
         None => Err(Fault::BadWords),

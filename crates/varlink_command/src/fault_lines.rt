@@ -82,6 +82,7 @@ fn wording_of<'a>(fault: &'a Fault, path: &'a str, digits: &'a str) -> Wording<'
         },
         Fault::NoDefinition(why) => refusal(why, digits),
         Fault::NoSheet(_) => unreachable!(),
+        Fault::NoWork => plain("no work"),
         Fault::Incompatible(line) => plain(line.as_str()),
         Fault::Cut { .. } => Wording {
             before: "cut after ",

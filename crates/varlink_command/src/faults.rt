@@ -18,7 +18,7 @@ pub enum Which {
 }
 
 /// Why a command did not do what it was asked for.
-#[derive(Drop)]
+#[derive(Debug, Drop)]
 pub enum Fault {
     /// The words are those of no command.
     BadWords,
@@ -30,6 +30,9 @@ pub enum Fault {
     NoDefinition(IdlFault),
     /// The file at the path holds no sheet. Want of memory is not told by it.
     NoSheet(SheetFault),
+    /// A work was not served to a number: its sheet has no such interface, its calls stop before their end, or
+    /// its register is no number.
+    NoWork,
     /// A definition cannot take the place of another one. The text tells why.
     Incompatible(Text),
     /// The input ended with so many bytes after the last whole message.
@@ -64,7 +67,7 @@ impl Fault {
     {
         Status(match self {
             Fault::BadWords => 1,
-            Fault::PastLimit(_) | Fault::NoDefinition(_) | Fault::NoSheet(_) => 2,
+            Fault::PastLimit(_) | Fault::NoDefinition(_) | Fault::NoSheet(_) | Fault::NoWork => 2,
             Fault::Cut { .. } | Fault::NotCall { .. } | Fault::TooLong { .. } => 3,
             Fault::Unreadable(_) | Fault::ReadFault => 5,
             Fault::WriteFault => 6,

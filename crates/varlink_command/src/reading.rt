@@ -48,7 +48,8 @@ fn is_want(why: &IdlFault) -> bool
     matches!(why, IdlFault::Memory)
 }
 
-/// Reads the sheet that the file at this path holds.
+/// Reads the sheet that the file at this path holds. It is refused where the file cannot be read or holds more
+/// bytes than a sheet may, where the text is no sheet, and for want of memory.
 pub fn read_sheet<F: Files>(alloc: Global, files: &mut F, path: &str) -> Result<Sheet, Fault>
     ensures reads { ReadsSheet (F.holds files.old path.now) result }
     ensures counted { FilesFault (F.faults files.old) (F.faults files.new) result }
@@ -76,7 +77,7 @@ fn is_memory(why: &SheetFault) -> bool
 }
 
 /// Reads what the file at this path holds, which is at most `limit` bytes. It is this one of the files that
-/// the words name.
+/// the words name, which the fault tells where it cannot be read or is longer; want of memory is told apart.
 pub fn read_file<F: Files>(
     alloc: Global,
     files: &mut F,
