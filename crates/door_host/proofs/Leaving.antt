@@ -47,10 +47,10 @@ module _ {R : Type 0} where
       (λ e apart is. apart (contains_first number e.pass [] (sym is))) g.0 g.2))
       ∙ append-nil (requests_of number seen)))
 
-module _ {D C : Type 0} (kind : DoorKind D C) (sheet : Contents) (history : List (Entry Request)) where
+module _ {D C : Type 0} (kind : DoorKind D C) (sheet : Contents) (limit : ℕ) (history : List (Entry Request)) where
   served_push : (befores afters : List D) (ends : List WorkerEnd) (before after : D) (end : WorkerEnd)
-      → AllServedOver kind sheet history befores afters ends → ServedOver kind sheet history before after end
-      → AllServedOver kind sheet history (befores ++ before ∷ []) (afters ++ after ∷ []) (ends ++ end ∷ [])
+      → AllServedOver kind sheet limit history befores afters ends → ServedOver kind sheet limit history before after end
+      → AllServedOver kind sheet limit history (befores ++ before ∷ []) (afters ++ after ∷ []) (ends ++ end ∷ [])
   served_push [] [] [] before after end all one = (one, tt)
   served_push (b ∷ bs) (a ∷ as') (e ∷ es) before after end all one = (all.0, served_push bs as' es before after end all.1 one)
   served_push _ _ _ before after end all one = absurd all
@@ -88,14 +88,14 @@ module _ {D C W : Type 0} (kind : DoorKind D C) (door : W → D) (seat : W → S
       λ i. here i + rest i
 
   module _ (history : List (Entry Request)) where
-    one_served : IsBegun sheet desk → (w x : W) → Sits w → Works w x → Within history x → ServedOver kind sheet history (door w) (door x) (end x)
+    one_served : IsBegun sheet desk → (w x : W) → Sits w → Works w x → Within history x → ServedOver kind sheet desk.limit history (door w) (door x) (end x)
     one_served begun w x sits works within = record {
       first = seat w;
       last = seat x;
       begins = record {
         sheet_is = sits.sheet_is;
-        start = ap (λ (d : DeskView State). d.start) sits.desk_is ∙ begun.0;
-        limit = ap (λ (d : DeskView State). d.limit) sits.desk_is ∙ begun.1;
+        start = ap (λ (d : DeskView State). d.start) sits.desk_is ∙ begun;
+        limit_is = ap (λ (d : DeskView State). d.limit) sits.desk_is;
         left = sits.left;
         asked = sits.asked;
         seen = sits.seen;
@@ -106,12 +106,12 @@ module _ {D C W : Type 0} (kind : DoorKind D C) (door : W → D) (seat : W → S
     }
 
     pub all_served : IsBegun sheet desk → (ws xs : List W) → All Sits ws → AllZip Works ws xs → All (Within history) xs
-        → AllServedOver kind sheet history (from_last door ws) (from_last door xs) (from_last end xs)
+        → AllServedOver kind sheet desk.limit history (from_last door ws) (from_last door xs) (from_last end xs)
     all_served begun [] [] sit z within = tt
     all_served begun [] (x ∷ xs) sit z within = absurd z
     all_served begun (w ∷ ws) [] sit z within = absurd z
     all_served begun (w ∷ ws) (x ∷ xs) sit z within =
-        served_push kind sheet history (from_last door ws) (from_last door xs) (from_last end xs) (door w) (door x) (end x)
+        served_push kind sheet desk.limit history (from_last door ws) (from_last door xs) (from_last end xs) (door w) (door x) (end x)
         (all_served begun ws xs (All-tail Sits w ws sit) z.1 (All-tail (Within history) x xs within))
         (one_served begun w x (All-head Sits w ws sit) z.0 (All-head (Within history) x xs within))
 
@@ -184,7 +184,7 @@ module _ {D C W : Type 0} (kind : DoorKind D C) (door : W → D) (seat : W → S
 -- what was gathered, once it is known that each entry is of a pass that was joined
 pub hosted : {D C : Type 0} (kind : DoorKind D C) (sheet : Contents) (desk : DeskView State) (before after : List D) (pass : PassView State Request) (entries : ℕ) (ends : List WorkerEnd)
     → Gathered kind sheet desk before after pass entries ends → All (λ e. Contains (carried pass) e.pass) pass.seen
-    → Hosted kind sheet pass.seen before after entries ends
+    → Hosted kind sheet desk.limit pass.seen before after entries ends
 hosted kind sheet desk before after pass entries ends g numbers =
     let all = g.whole.numbers_are in
     let owned : All (λ (e : Entry Request). Contains (passes_of ends) e.pass) pass.seen =

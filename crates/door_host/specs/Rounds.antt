@@ -11,7 +11,7 @@ use Rattle.service_core.specs.Tells.{started}
 use Rattle.service_desk.specs.Seats.{Seat}
 use Rattle.door_serving.specs.declared.doors.WorkerEnd.{WorkerEnd}
 use Rattle.door_serving.specs.Conversations.{GoesOn}
-use Rattle.door_host.specs.declared.hosts.TheConstants.{HISTORY_LIMIT, PASS_ASKS}
+use Rattle.door_host.specs.declared.hosts.TheConstants.{PASS_ASKS}
 use Rattle.door_host.specs.Doors.{DoorKind, Worked}
 use Rattle.door_host.specs.Hosts.{AllServedOver, AreDistinct, IsNumbered, passes_of}
 
@@ -22,7 +22,7 @@ from_last f (item ∷ items) = from_last f items ++ f item ∷ []
 
 -- the desk was started with the registers of the service as they begin
 abbrev pub IsBegun : Contents → DeskView State → Type 0
-IsBegun sheet desk = (desk.start ≡ started sheet) × (desk.limit ≡ HISTORY_LIMIT)
+IsBegun sheet desk = desk.start ≡ started sheet
 
 -- the first pass of a desk, by which nothing was asked
 abbrev pub IsFirst : DeskView State → PassView State Request → Type 0
@@ -62,4 +62,4 @@ pub record Gathered {D C : Type 0} (door : DoorKind D C) (sheet : Contents) (des
   pub whole : IsWhole desk pass (passes_of ends)
   pub numbered : All IsNumbered ends
   pub count : entries ≡ total (own_entries pass.seen) ends
-  pub doors : AllServedOver door sheet pass.seen before after ends
+  pub doors : AllServedOver door sheet desk.limit pass.seen before after ends

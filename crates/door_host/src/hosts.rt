@@ -19,8 +19,11 @@ use std::sync::Wait;
 use std::thread::Threads;
 use turn_desk::{Desk, Ledger, Pass};
 
-/// The most that the history of a service may weigh.
+/// The most that the history of a service may weigh where it is kept.
 pub const HISTORY_LIMIT: u64 = 268_435_456;
+
+/// The most that it may weigh where it is not kept.
+pub const FORGOTTEN_LIMIT: u64 = 1 << 62;
 
 /// The asks of the pass of a worker.
 pub const PASS_ASKS: u64 = 1 << 40;
@@ -41,6 +44,9 @@ pub struct Served<L> {
 /// Serves a service at each of the doors, in a thread of its own: their connections one after another, until each
 /// door has given all that it states, or fails. All steps that are asked for on all connections are one history.
 ///
+/// The history may weigh `limit`, which is at most 2^62: a call whose step would pass it ends its connection. `HISTORY_LIMIT` is
+/// for a history that is kept, and `FORGOTTEN_LIMIT` for one that is not: that is past all that a service can come to.
+///
 /// What it takes itself it takes first: after `Memory` no connection was accepted. The doors are left in their order.
 pub fn serve<
     R: Threads + Wait + Sync,
@@ -53,15 +59,17 @@ pub fn serve<
     doors: &mut Vec<D>,
     service: &Service,
     gate: &G,
+    limit: u64,
 ) -> Result<Served<L>, Memory>
 where
     D::Conn: Send,
+    requires limit { limit ≤ 2 ^ 62 }
     requires some { 1 ≤ length doors.old.items }
     requires few { length doors.old.items ≤ 64 }
     requires out { All (λ door. IfSome (D.back door) (λ visits. length visits ≤ D.given door)) doors.old.items }
     ensures memory { OnErr result (doors.new.items ≡ doors.old.items) }
     ensures serves { IfOk result (λ served. OneHistory L.stands_for
-        (kind_of D.stated D.given D.faults D.coming D.back D.Conn.left D.Conn.written) service.now
+        (kind_of D.stated D.given D.faults D.coming D.back D.Conn.left D.Conn.written) service.now limit
         doors.old.items doors.new.items served.board served.ledger served.entries served.ends.items) }
 {
     let ends = room_for_ends(alloc, doors.len())?;
@@ -72,7 +80,7 @@ where
             return Err(memory);
         }
     };
-    match Desk::start(alloc, board, HISTORY_LIMIT) {
+    match Desk::start(alloc, board, limit) {
         Ok((desk, pass)) => serve_desk(rt, alloc, doors, service, gate, desk, pass, ends),
         Err(memory) => {
             drop(ends);
@@ -118,7 +126,7 @@ where
     requires out { All (λ door. IfSome (D.back door) (λ visits. length visits ≤ D.given door)) doors.old.items }
     ensures memory { OnErr result (doors.new.items ≡ doors.old.items) }
     ensures serves { IfOk result (λ served. OneHistory L.stands_for
-        (kind_of D.stated D.given D.faults D.coming D.back D.Conn.left D.Conn.written) service.now
+        (kind_of D.stated D.given D.faults D.coming D.back D.Conn.left D.Conn.written) service.now desk.limit
         doors.old.items doors.new.items served.board served.ledger served.entries served.ends.items) }
 {
     match serve_at(rt, alloc, doors, service, gate, &desk, pass, ends) {

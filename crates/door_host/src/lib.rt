@@ -8,5 +8,5 @@ mod porters;
 mod resolvers;
 mod rounds;
 
-pub use hosts::{HISTORY_LIMIT, PASS_ASKS, Served, serve};
+pub use hosts::{FORGOTTEN_LIMIT, HISTORY_LIMIT, PASS_ASKS, Served, serve};
 pub use resolvers::serve_registry;

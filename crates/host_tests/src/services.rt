@@ -3,7 +3,7 @@ ghost use Rattle.std.specs.Prelude.{◌≡◌, [], All, length};
 
 use crate::doors::{doors, is_left};
 use crate::sheets::COUNT;
-use door_host::{Served, serve};
+use door_host::{HISTORY_LIMIT, Served, serve};
 use link_doors::{Gate, MemDoor, OpenGate};
 use link_port::Memory;
 use service_core::{Request, Service};
@@ -93,7 +93,14 @@ fn is_made<R: Threads + Wait + Sync, G: Gate + Sync>(
     requires few { length doors.old.items ≡ 2 }
     requires none { All (λ door. (door.given ≡ 0) × (door.back ≡ [])) doors.old.items }
 {
-    let served: Result<Served<Kept<Request>>, Memory> = serve(rt, alloc, doors, service, gate);
+    let served: Result<Served<Kept<Request>>, Memory> = serve(
+        rt,
+        alloc,
+        doors,
+        service,
+        gate,
+        HISTORY_LIMIT,
+    );
     match served {
         Ok(served) => {
             let made = is_served(&served, entries);

@@ -2,7 +2,7 @@
 ghost use Rattle.std.specs.Prelude.{◌≡◌, false};
 
 use crate::services::{ADD, count_service};
-use door_host::{Served, serve};
+use door_host::{HISTORY_LIMIT, Served, serve};
 use link_doors::{Leave, Listener, OpenGate};
 use link_port::{Ends, Failed, Memory, Sink, Source};
 use service_core::{Request, Service};
@@ -135,7 +135,12 @@ fn goes_on<R: Threads + Wait + Sync>(
     let right = match vec![in alloc; door(&puts, held[0]), door(&puts, held[1])] {
         Ok(mut doors) => {
             let served: Result<Served<Kept<Request>>, Memory> = serve(
-                rt, alloc, &mut doors, service, &gate,
+                rt,
+                alloc,
+                &mut doors,
+                service,
+                &gate,
+                HISTORY_LIMIT,
             );
             let entries = match served {
                 Ok(served) => {

@@ -19,9 +19,9 @@ returns-in-Ok-clause-serves g c =
       history = seen;
       stands = c.close.ensures.history;
       leads = record {
-        state = c.close.ensures.state ∙ ap (λ (s : State). state_of state_after s seen) c.requires.begun.0;
-        good = subst (λ (s : State). AllGood IsGoodFor s seen) c.requires.begun.0 c.close.ensures.good;
+        state = c.close.ensures.state ∙ ap (λ (s : State). state_of state_after s seen) c.requires.begun;
+        good = subst (λ (s : State). AllGood IsGoodFor s seen) c.requires.begun c.close.ensures.good;
       };
-      hosted = subst (λ (n : ℕ). Hosted kind c.args.service.now seen before after n c.close.result.ends.items) (sym c.close.ensures.entries)
-          (subst (λ (l : List WorkerEnd). Hosted kind c.args.service.now seen before after c.in-Ok.round.entries l) (λ i. (sym c.close.ensures.ends i).items) all);
+      hosted = subst (λ (n : ℕ). Hosted kind c.args.service.now c.args.desk.limit seen before after n c.close.result.ends.items) (sym c.close.ensures.entries)
+          (subst (λ (l : List WorkerEnd). Hosted kind c.args.service.now c.args.desk.limit seen before after c.in-Ok.round.entries l) (λ i. (sym c.close.ensures.ends i).items) all);
     }
