@@ -1,5 +1,6 @@
 -- The status that tells a fault, and the line that tells it. Numbers are decimal.
-use Rattle.std.specs.Prelude.{ℕ, List, ◌++◌, codes, decimal}
+use Rattle.std.specs.Prelude.{ℕ, ⊤, List, ◌++◌, codes, decimal}
+use Rattle.host_command.specs.Faults as host
 use Rattle.network_command.specs.declared.faults.NetworkFault.{NetworkFault}
 use Rattle.network_command.specs.declared.faults.NetworkFault.TheVariants as fault
 use Rattle.network_command.specs.declared.fault_lines.Wording.{Wording}
@@ -19,6 +20,7 @@ status_of fault.WriteFault = 6
 status_of fault.Memory = 7
 status_of fault.Long = 8
 status_of (fault.NoAddress interface) = 9
+status_of (fault.Hosting why) = host.status_of why
 
 -- the number in the text; 0 where there is none
 abbrev pub number_of : NetworkFault → ℕ
@@ -49,6 +51,12 @@ fault_text fault.LinkFault = codes "link fault"
 fault_text fault.WriteFault = codes "write fault"
 fault_text fault.Long = codes "too many bytes"
 fault_text fault.Memory = codes "out of memory"
+fault_text (fault.Hosting why) = host.fault_text why
+
+-- the fault is told by a text of its own
+abbrev pub IsOwn : NetworkFault → Type 0
+IsOwn (fault.Hosting why) = ⊥
+IsOwn _ = ⊤
 
 -- the line: the program's name, the text, and a line feed
 abbrev pub fault_line : NetworkFault → List ℕ

@@ -4,3 +4,4 @@ pub mod Faults
 pub mod Online
 pub mod Outcomes
 pub mod Resolving
+pub mod Serving

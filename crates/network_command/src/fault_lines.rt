@@ -2,9 +2,10 @@
 ghost use Rattle.std.specs.Prelude.{◌≡◌, ◌++◌, false, codes, decimal};
 ghost use Rattle.link_port.specs.Flow.{IsAsBefore};
 ghost use Rattle.varlink_command.specs.Lines.{PutsAll};
-ghost use Rattle.network_command.specs.Faults.{fault_line, fault_text, number_of, wording};
+ghost use Rattle.network_command.specs.Faults.{IsOwn, fault_line, fault_text, number_of, wording};
 
 use crate::faults::NetworkFault;
+use host_command::write_host_line;
 use itoa::Buffer;
 use link_port::{Failed, Sink, Text};
 use varlink_command::put_texts;
@@ -30,6 +31,9 @@ pub fn write_network_line<E: Sink>(faults: &mut E, fault: &NetworkFault) -> Resu
         (E.read_faults faults.old) (E.read_faults faults.new) }
     ensures unfinished { E.finished faults.new ≡ false }
 {
+    if let NetworkFault::Hosting(why) = fault {
+        return write_host_line(faults, why);
+    }
     let mut digits = Buffer::new();
     let text = wording_of(fault, digits.format(fault.number()));
     put_texts(
@@ -84,6 +88,7 @@ fn ill_typed<'a>(digits: &'a str, field: &'a Text) -> Wording<'a>
 // The text of a fault, its number in these digits.
 fn wording_of<'a>(fault: &'a NetworkFault, digits: &'a str) -> Wording<'a>
     requires digits { digits.now ≡ decimal (number_of fault.now) }
+    requires plain { IsOwn fault.now }
     ensures { wording result ≡ fault_text fault.now }
 {
     match fault {
@@ -105,6 +110,7 @@ fn wording_of<'a>(fault: &'a NetworkFault, digits: &'a str) -> Wording<'a>
         NetworkFault::LinkFault => plain("link fault", ""),
         NetworkFault::WriteFault => plain("write fault", ""),
         NetworkFault::Long => plain("too many bytes", ""),
+        NetworkFault::Hosting(_) => unreachable!(),
         NetworkFault::Memory => plain("out of memory", ""),
     }
 }

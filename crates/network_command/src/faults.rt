@@ -2,6 +2,7 @@
 ghost use Rattle.std.specs.Prelude.{◌≡◌};
 ghost use Rattle.network_command.specs.Faults.{status_of, number_of};
 
+use host_command::HostFault;
 use link_port::Text;
 use varlink_command::Status;
 
@@ -59,6 +60,8 @@ pub enum NetworkFault {
     Long,
     /// Memory was asked for and not granted.
     Memory,
+    /// A command that serves did not do it.
+    Hosting(HostFault),
 }
 
 impl NetworkFault {
@@ -67,6 +70,7 @@ impl NetworkFault {
         ensures { result.0 ≡ status_of self.now }
     {
         Status(match self {
+            NetworkFault::Hosting(why) => return why.status(),
             NetworkFault::BadWords => 1,
             NetworkFault::NotReply { .. }
             | NetworkFault::Continues { .. }

@@ -1,4 +1,4 @@
-//! The commands of `varlink` that need the network: `call` and `resolve`.
+//! The commands of `varlink` that need the network: `call`, `resolve`, `serve` and `resolver`.
 #![tactic(auto)]
 
 mod calling;

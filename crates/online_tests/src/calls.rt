@@ -44,7 +44,7 @@ fn replies_are_printed(rt: HostRuntime) {
             ..CALL
         },
     ];
-    assert!(rt; are_right(rt.alloc(), &rows));
+    assert!(rt; are_right(&rt, rt.alloc(), &rows));
 }
 
 /// A typed call, and what is sent for it.
@@ -95,7 +95,7 @@ fn replies_of_a_typed_call_are_read(rt: HostRuntime) {
             ..UNSENT
         },
     ];
-    assert!(rt; are_right(rt.alloc(), &rows));
+    assert!(rt; are_right(&rt, rt.alloc(), &rows));
 }
 
 #[test]
@@ -119,7 +119,7 @@ fn an_error_is_printed_and_told(rt: HostRuntime) {
             ..CALL
         },
     ];
-    assert!(rt; are_right(rt.alloc(), &rows));
+    assert!(rt; are_right(&rt, rt.alloc(), &rows));
 }
 
 #[test]
@@ -158,7 +158,7 @@ fn what_is_no_reply_is_told(rt: HostRuntime) {
             ..MORE
         },
     ];
-    assert!(rt; are_right(rt.alloc(), &rows));
+    assert!(rt; are_right(&rt, rt.alloc(), &rows));
 }
 
 #[test]
@@ -170,7 +170,7 @@ fn a_reply_that_is_too_long_is_told(rt: HostRuntime) {
         line: "reply 0 is too long",
         ..CALL
     };
-    assert!(rt; are_right(rt.alloc(), &[row]));
+    assert!(rt; are_right(&rt, rt.alloc(), &[row]));
 }
 
 #[test]
@@ -191,7 +191,7 @@ fn a_link_that_fails_is_told(rt: HostRuntime) {
             ..CALL
         },
     ];
-    assert!(rt; are_right(rt.alloc(), &rows));
+    assert!(rt; are_right(&rt, rt.alloc(), &rows));
 }
 
 #[test]
@@ -203,7 +203,7 @@ fn an_output_that_fails_is_told(rt: HostRuntime) {
         line: "write fault",
         ..CALL
     };
-    assert!(rt; are_right(rt.alloc(), &[row]));
+    assert!(rt; are_right(&rt, rt.alloc(), &[row]));
 }
 
 #[test]
@@ -226,5 +226,5 @@ fn a_bridge_is_started(rt: HostRuntime) {
             ..CALL
         },
     ];
-    assert!(rt; are_right(rt.alloc(), &rows));
+    assert!(rt; are_right(&rt, rt.alloc(), &rows));
 }

@@ -11,4 +11,8 @@ mod resolvers;
 #[cfg(test)]
 mod rows;
 #[cfg(test)]
+mod serving;
+#[cfg(test)]
+mod sheets;
+#[cfg(test)]
 mod words;

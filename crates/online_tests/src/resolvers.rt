@@ -22,7 +22,7 @@ fn a_call_is_made_where_the_resolver_says(rt: HostRuntime) {
         output: b"{\"parameters\":{\"total\":5}}\n",
         ..CALL
     };
-    assert!(rt; are_right(rt.alloc(), &[row]));
+    assert!(rt; are_right(&rt, rt.alloc(), &[row]));
 }
 
 #[test]
@@ -53,7 +53,7 @@ fn a_bad_resolver_is_told(rt: HostRuntime) {
             ..RESOLVE
         },
     ];
-    assert!(rt; are_right(rt.alloc(), &rows));
+    assert!(rt; are_right(&rt, rt.alloc(), &rows));
 }
 
 /// What the resolver says where it has no such interface.
@@ -86,7 +86,7 @@ fn a_missing_interface_is_told(rt: HostRuntime) {
             ..RESOLVE
         },
     ];
-    assert!(rt; are_right(rt.alloc(), &rows));
+    assert!(rt; are_right(&rt, rt.alloc(), &rows));
 }
 
 /// A question for an address.
@@ -112,7 +112,7 @@ fn an_address_is_printed(rt: HostRuntime) {
             ..RESOLVE
         },
     ];
-    assert!(rt; are_right(rt.alloc(), &rows));
+    assert!(rt; are_right(&rt, rt.alloc(), &rows));
 }
 
 #[test]
@@ -140,5 +140,5 @@ fn faults_of_ends_are_told(rt: HostRuntime) {
             ..CALL
         },
     ];
-    assert!(rt; are_right(rt.alloc(), &rows));
+    assert!(rt; are_right(&rt, rt.alloc(), &rows));
 }

@@ -1,14 +1,17 @@
 // One command over ends and links in memory: what it is given, and whether it leaves what it must.
 ghost use Rattle.std.specs.Prelude.{◌≡◌, false, IfOk};
 
-use link_doors::Address;
+use door_binder::MemBinder;
+use link_doors::{Address, OpenGate};
 use link_port::{List, MemFiles, MemSink, MemSource, Memory, Text};
 use link_reach::{Deed, MemReach};
 use network_command::{Network, online};
 use std::alloc::Global;
+use std::sync::Wait;
+use std::thread::Threads;
 use varlink_command::{Desktop, Status};
 
-type Fake = Network<MemSource, MemSink, MemSink, MemFiles, MemReach>;
+type Fake = Network<MemSource, MemSink, MemSink, MemFiles, MemReach, MemBinder, OpenGate>;
 
 /// What a command is given, and what it must leave.
 #[derive(Clone, Copy)]
@@ -48,19 +51,23 @@ pub const NOTHING: Row<'static> = Row {
 };
 
 /// Whether each row leaves what it must.
-pub fn are_right(alloc: Global, rows: &[Row<'_>]) -> bool {
+pub fn are_right<R: Threads + Wait + Sync>(rt: &R, alloc: Global, rows: &[Row<'_>]) -> bool {
     for row in rows {
-        if is_right(alloc, row) != Ok(true) {
+        if is_right(rt, alloc, row) != Ok(true) {
             return false;
         }
     }
     true
 }
 
-fn is_right(alloc: Global, row: &Row<'_>) -> Result<bool, Memory> {
+fn is_right<R: Threads + Wait + Sync>(
+    rt: &R,
+    alloc: Global,
+    row: &Row<'_>,
+) -> Result<bool, Memory> {
     let words = texts(alloc, row.words)?;
     match world(alloc, row) {
-        Ok(world) => Ok(leaves(alloc, words.as_slice(), world, row)),
+        Ok(world) => Ok(leaves(rt, alloc, words.as_slice(), world, row)),
         Err(memory) => {
             drop(words);
             Err(memory)
@@ -69,15 +76,22 @@ fn is_right(alloc: Global, row: &Row<'_>) -> Result<bool, Memory> {
 }
 
 // Whether the command of these words leaves what the row says.
-fn leaves(alloc: Global, words: &[Text], world: Fake, row: &Row<'_>) -> bool
+fn leaves<R: Threads + Wait + Sync>(
+    rt: &R,
+    alloc: Global,
+    words: &[Text],
+    world: Fake,
+    row: &Row<'_>,
+) -> bool
     requires output { world.desktop.output.finished ≡ false }
     requires faults { world.desktop.faults.finished ≡ false }
 {
     let mut world = world;
-    let status = online(alloc, words, &mut world);
+    let status = online(rt, alloc, words, &mut world);
     let is_right = status == Status(row.status)
         && world.desktop.output.bytes() == row.output
         && is_line(world.desktop.faults.bytes(), row.line)
+        && world.binder.binds().is_empty()
         && are_dialled(world.reach.deeds(), row.dialled)
         && is_sent(world.reach.deeds(), row.sent);
     drop(world);
@@ -143,10 +157,22 @@ fn world(alloc: Global, row: &Row<'_>) -> Result<Fake, Memory>
     ensures faults { IfOk result (λ world. world.desktop.faults.finished ≡ false) }
 {
     let desktop = desktop(alloc, row)?;
-    match reach(alloc, row) {
-        Ok(reach) => Ok(Network { desktop, reach }),
+    let reach = match reach(alloc, row) {
+        Ok(reach) => reach,
         Err(memory) => {
             drop(desktop);
+            return Err(memory);
+        }
+    };
+    match MemBinder::new(alloc, Vec::new(alloc), List::new(alloc)) {
+        Ok(binder) => Ok(Network {
+            desktop,
+            reach,
+            binder,
+            gate: OpenGate::new(),
+        }),
+        Err(memory) => {
+            drop((desktop, reach));
             Err(memory)
         }
     }
@@ -181,7 +207,7 @@ fn desktop(
     }
 }
 
-fn source(alloc: Global) -> Result<MemSource, Memory> {
+pub fn source(alloc: Global) -> Result<MemSource, Memory> {
     MemSource::new(alloc, List::new(alloc), List::new(alloc), List::new(alloc))
 }
 
@@ -227,7 +253,7 @@ fn spaced(alloc: Global, spaces: usize, bytes: &[u8]) -> Result<List<u8>, Memory
 }
 
 // The words of a line, between spaces.
-fn texts(alloc: Global, line: &str) -> Result<List<Text>, Memory> {
+pub fn texts(alloc: Global, line: &str) -> Result<List<Text>, Memory> {
     let mut words = List::new(alloc);
     for word in line.split(' ') {
         let word = Text::of(alloc, word)?;
@@ -236,12 +262,12 @@ fn texts(alloc: Global, line: &str) -> Result<List<Text>, Memory> {
     Ok(words)
 }
 
-fn list<T: Copy>(alloc: Global, from: &[T]) -> Result<List<T>, Memory> {
+pub fn list<T: Copy>(alloc: Global, from: &[T]) -> Result<List<T>, Memory> {
     Ok(List::from_vec(Vec::from_slice(alloc, from)?))
 }
 
 // What is held, and what was made beside it; where that was not made, what is held is let go.
-fn beside<H: Drop, T>(held: H, made: Result<T, Memory>) -> Result<(H, T), Memory> {
+pub fn beside<H: Drop, T>(held: H, made: Result<T, Memory>) -> Result<(H, T), Memory> {
     match made {
         Ok(made) => Ok((held, made)),
         Err(memory) => {

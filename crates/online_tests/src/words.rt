@@ -1,8 +1,10 @@
 // Words of no command, and of commands that are not run yet.
 use crate::rows::{NOTHING, Row, are_right};
 use std::alloc::Global;
+use std::sync::Wait;
+use std::thread::Threads;
 
-const WORDS: [&str; 20] = [
+const WORDS: [&str; 25] = [
     "",
     "call",
     "help",
@@ -19,13 +21,18 @@ const WORDS: [&str; 20] = [
     "resolve a.b",
     "resolve --resolver unix:/r",
     "resolve --resolver unix:/r a.b c.d",
-    "serve unix:/a sheet.json",
-    "resolver unix:/a registry.json",
+    "serve",
+    "serve unix:/a",
+    "serve unix: sheet.json",
+    "serve unix:/a sheet.json x",
+    "serve unix:/a sheet.json --workers 65",
+    "serve unix:/a sheet.json --connections 0",
+    "resolver unix:/a registry.json --forget",
     "bridge --to unix:/a",
     "bridge --resolver unix:/r",
 ];
 
-fn are_bad(alloc: Global, lines: &[&str]) -> bool {
+fn are_bad<R: Threads + Wait + Sync>(rt: &R, alloc: Global, lines: &[&str]) -> bool {
     for words in lines {
         let row = Row {
             words,
@@ -34,7 +41,7 @@ fn are_bad(alloc: Global, lines: &[&str]) -> bool {
             line: "bad words",
             ..NOTHING
         };
-        if !are_right(alloc, &[row]) {
+        if !are_right(rt, alloc, &[row]) {
             return false;
         }
     }
@@ -43,5 +50,5 @@ fn are_bad(alloc: Global, lines: &[&str]) -> bool {
 
 #[test]
 fn other_words_are_bad(rt: HostRuntime) {
-    assert!(rt; are_bad(rt.alloc(), &WORDS));
+    assert!(rt; are_bad(&rt, rt.alloc(), &WORDS));
 }

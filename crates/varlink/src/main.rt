@@ -1,10 +1,11 @@
 //! The program `varlink`: Varlink services and callers on the command line.
 #![tactic(auto)]
 
+use link_doors::OpenGate;
 use link_port::Text;
 use network_command::{Network, online};
 use network_words::is_network;
-use socket_edges::RealReach;
+use socket_edges::{RealBinder, RealReach};
 use std::env;
 use std::io::ErrorKind;
 use std::process::ExitCode;
@@ -19,9 +20,11 @@ fn main(rt: HostRuntime) -> ExitCode {
             files: RealFiles::new(rt),
         },
         reach: RealReach::new(rt.alloc(), rt),
+        binder: RealBinder::new(rt),
+        gate: OpenGate::new(),
     };
     let Status(status) = match words(rt) {
-        Ok(words) if is_network(&words) => online(rt.alloc(), &words, &mut net),
+        Ok(words) if is_network(&words) => online(&rt, rt.alloc(), &words, &mut net),
         Ok(words) => offline(rt.alloc(), &words, &mut net.desktop),
         Err(fault) => refuse(&mut net.desktop, fault),
     };
