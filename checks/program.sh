@@ -61,6 +61,7 @@ expect_unwritten() {
 # ---- words
 
 for words in "" "Session" "session session x" "--help" "help help" "check" "format" "sheet" "sheet --a" "sheet a b" "check a b" "check --a" "lint good.varlink" \
+    "work" "work 0" "work 03" "work +3" "work 10001" "work 3 3" "work x" \
     "compat" "compat good.varlink" "compat a b c" "compat --a b" "compat a --b"; do
     # shellcheck disable=SC2086
     expect "the words '$words'" 1 - 'bad words' $words </dev/null
@@ -69,10 +70,17 @@ expect 'a word that is no text' 1 - 'bad words' check $'\xff' </dev/null
 
 # ---- help
 
-printf '%s\n' check format sheet session help call resolve compat >"$work/help"
+printf '%s\n' check format sheet session work help serve resolver call resolve compat >"$work/help"
 expect 'help' 0 "$work/help" - help </dev/null
 : >"$work/in"
 expect_unwritten help 'write fault' help
+
+# ---- work
+
+printf 'definition 120\ncalls 162\nreplies 69\ntotal 6\n' >"$work/figures"
+expect 'the work of three methods' 0 "$work/figures" - work 3 </dev/null
+: >"$work/in"
+expect_unwritten 'the work of three methods' 'write fault' work 3
 
 # ---- session
 
@@ -275,7 +283,7 @@ rm -f "$work/peer"
 expect 'a call where nobody listens' 5 - 'link fault' "${add[@]}" </dev/null
 expect 'a resolver that does not listen' 5 - 'link fault' "${resolve[@]}" </dev/null
 for words in "call" "call a.b.C" "call --at $at" "call --at unix: a.b.C" "call --at $at a.b.C [1]" \
-    "resolve a.b" "resolve --resolver $at a.b c.d" "serve $at s.json" "resolver $at r.json" "bridge --to $at"; do
+    "resolve a.b" "resolve --resolver $at a.b c.d" "serve $at" "serve unix: s.json" "serve $at s.json --workers 65" "resolver $at r.json --forget" "bridge --to $at"; do
     # shellcheck disable=SC2086
     expect "the words '$words'" 1 - 'bad words' $words </dev/null
 done
