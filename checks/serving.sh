@@ -267,9 +267,9 @@ holds 'nothing was bound for a bad file' is_gone "$work/s"
 expect_four() {
     local name=$1 at=$2
     expect_caller "$name, two connections at the same time" "$at" \
-        "A $(total 1)" "B $(total 5)" "A $(total 7)" 'A  and the end' 'B  and the end' -- \
-        "A>$(add 1)" 'A<1' "B>$(add 4)" 'B<1' "A>$(add 2)" 'A<1' A. B.
-    expect_caller "$name, a message that is cut" "$at" "C $(total 8) and the end" -- "C>$(add 1){\"method\":\"org.exa" C.
+        "A $(total 5)" "B $(total 5)" "B $(total 12)" "A $(total 12)" 'A  and the end' 'B  and the end' -- \
+        "A>$(add 5)" 'A<1' "B>$(add 0)" 'B<1' "B>$(add 7)" 'B<1' "A>$(add 0)" 'A<1' A. B.
+    expect_caller "$name, a message that is cut" "$at" "C $(total 13) and the end" -- "C>$(add 1){\"method\":\"org.exa" C.
     expect_caller "$name, a message that is no call" "$at" "D $told and the end" -- "D>${info}[]~" 'D$'
 }
 
@@ -277,7 +277,7 @@ start 'two workers' serve "$at" "$sheet" --workers 2 --connections 2
 two=$server
 holds 'a socket is there' test -S "$work/s"
 expect_four 'two workers' "$at"
-echo 'entries 4' >"$work/entries"
+echo 'entries 5' >"$work/entries"
 finish 'two workers' "$two" 0 "$work/entries" -
 holds 'the socket of two workers is gone' is_gone "$work/s"
 
@@ -457,7 +457,7 @@ start 'two workers of a port' serve "$net" "$sheet" --workers 2 --connections 2
 ported=$server
 expect 'a port that is served' 5 - 'cannot bind' serve "$net" "$sheet" --workers 1 </dev/null
 expect_four 'two workers of a port' "$net"
-echo 'entries 4' >"$work/entries"
+echo 'entries 5' >"$work/entries"
 finish 'two workers of a port' "$ported" 0 "$work/entries" -
 echo 'entries 1' >"$work/entries"
 # a server that is killed while a peer is connected: its port is free at once

@@ -25,6 +25,18 @@ pub const TWO: &str = "{\"parameters\":{\"total\":2}}\0";
 const NO_RULE: &str =
     "{\"error\":\"org.varlink.service.MethodNotImplemented\",\"parameters\":{\"method\":\"org.example.count.Ping\"}}\0";
 
+/// One was added once.
+const ONCE: Made = Made {
+    entries: 1,
+    total: 1,
+};
+
+/// One was added twice.
+pub const TWICE: Made = Made {
+    entries: 2,
+    total: 2,
+};
+
 /// The service of the count sheet.
 pub fn count_service(alloc: Global) -> Result<Service, Memory> {
     match read(alloc, COUNT.as_bytes()) {
@@ -36,16 +48,23 @@ pub fn count_service(alloc: Global) -> Result<Service, Memory> {
     }
 }
 
-/// Whether so many entries were made by the two workers, and the total is as many.
-pub fn is_served(served: &Served<Kept<Request>>, entries: u64) -> bool {
+/// What is made by the two workers: so many entries, and this total.
+#[derive(Clone, Copy)]
+pub struct Made {
+    pub entries: u64,
+    pub total: i64,
+}
+
+/// Whether this was made.
+pub fn is_served(served: &Served<Kept<Request>>, made: Made) -> bool {
     let total = served.board.registers().values().first();
     let ended = served
         .ends
         .iter()
         .all(|end| end.connections == 1 && !end.listen_failed);
-    served.entries == entries
-        && served.ledger.entries.len() as u64 == entries
-        && matches!(total, Some(Val::Int(number)) if *number == entries as i64)
+    served.entries == made.entries
+        && served.ledger.entries.len() as u64 == made.entries
+        && matches!(total, Some(Val::Int(number)) if *number == made.total)
         && served.ends.len() == 2
         && ended
 }
@@ -53,13 +72,13 @@ pub fn is_served(served: &Served<Kept<Request>>, entries: u64) -> bool {
 /// What two doors of one connection each must be left with: the bytes written, and the number of entries.
 pub type Left<'a> = [(&'a str, u64); 2];
 
-/// Whether two doors whose peers say this are left so, with so many entries in all.
+/// Whether two doors whose peers say this are left so, with this made in all.
 pub fn serves<R: Threads + Wait + Sync, G: Gate + Sync>(
     rt: &R,
     alloc: Global,
     gate: &G,
     says: [&str; 2],
-    entries: u64,
+    made: Made,
     wanted: &[Left<'_>],
 ) -> bool {
     let Ok(service) = count_service(alloc) else {
@@ -67,7 +86,7 @@ pub fn serves<R: Threads + Wait + Sync, G: Gate + Sync>(
     };
     let right = match doors(alloc, says) {
         Ok(mut doors) => {
-            let made = is_made(rt, alloc, gate, &mut doors, &service, entries);
+            let made = is_made(rt, alloc, gate, &mut doors, &service, made);
             let left = wanted.iter().any(|left| are_left(doors.as_slice(), *left));
             drop(doors);
             made && left
@@ -81,14 +100,14 @@ pub fn serves<R: Threads + Wait + Sync, G: Gate + Sync>(
     right
 }
 
-/// Whether the doors are served, and so many entries are made.
+/// Whether the doors are served, and this is made.
 fn is_made<R: Threads + Wait + Sync, G: Gate + Sync>(
     rt: &R,
     alloc: Global,
     gate: &G,
     doors: &mut Vec<MemDoor>,
     service: &Service,
-    entries: u64,
+    made: Made,
 ) -> bool
     requires few { length doors.old.items ≡ 2 }
     requires none { All (λ door. (door.given ≡ 0) × (door.back ≡ [])) doors.old.items }
@@ -103,7 +122,7 @@ fn is_made<R: Threads + Wait + Sync, G: Gate + Sync>(
     );
     match served {
         Ok(served) => {
-            let made = is_served(&served, entries);
+            let made = is_served(&served, made);
             drop(served);
             made
         }
@@ -125,12 +144,12 @@ fn are_left(doors: &[MemDoor], left: Left<'_>) -> bool {
 fn doors_are_left_in_their_order(rt: HostRuntime) {
     let left: [Left<'_>; 1] = [[(ONE, 1), (NO_RULE, 0)]];
     let gate = OpenGate::new();
-    assert!(rt; serves(&rt, rt.alloc(), &gate, [ADD, PING], 1, &left));
+    assert!(rt; serves(&rt, rt.alloc(), &gate, [ADD, PING], ONCE, &left));
 }
 
 #[test]
 fn connections_of_two_doors_share_the_registers(rt: HostRuntime) {
     let left: [Left<'_>; 2] = [[(ONE, 1), (TWO, 1)], [(TWO, 1), (ONE, 1)]];
     let gate = OpenGate::new();
-    assert!(rt; serves(&rt, rt.alloc(), &gate, [ADD, ADD], 2, &left));
+    assert!(rt; serves(&rt, rt.alloc(), &gate, [ADD, ADD], TWICE, &left));
 }

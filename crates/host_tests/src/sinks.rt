@@ -1,9 +1,9 @@
-// Two doors, of which one has a connection whose sink waits for the other one.
+// Two doors, of which one has a connection whose sink waits until the call of the other one was answered.
 ghost use Rattle.std.specs.Prelude.{◌≡◌, false};
 
 use crate::services::{ADD, count_service};
 use door_host::{HISTORY_LIMIT, Served, serve};
-use link_doors::{Leave, Listener, OpenGate};
+use link_doors::{Gate, Leave, Listener};
 use link_port::{Ends, Failed, Memory, Sink, Source};
 use service_core::{Request, Service};
 use std::alloc::Global;
@@ -15,13 +15,50 @@ use turn_desk::Kept;
 /// How often a put looks whether the other one was made.
 const MOST_LOOKS: u64 = 1_000_000;
 
-/// What two connections tell each other.
+/// What two connections tell each other. A mark is 1 once it is set.
 #[derive(Drop)]
 struct Puts {
-    /// How many puts of the connection that is not held were made.
-    free: AtomicU64,
-    /// How many puts of the connection that is held came after those.
+    /// The connection that is held began its put.
+    begun: AtomicU64,
+    /// The call of the other one was answered.
+    answered: AtomicU64,
+    /// How many puts of the connection that is held ended behind that.
     held: AtomicU64,
+    /// One waited in vain.
+    late: AtomicU64,
+}
+
+/// Waits until a mark is set, and tells whether it was.
+fn is_set(mark: &AtomicU64) -> bool {
+    for _ in 0..MOST_LOOKS {
+        if mark.load(Ordering::SeqCst) == 1 {
+            return true;
+        }
+        yield_now();
+    }
+    false
+}
+
+/// A gate that lets the call of a worker be answered only once the put of the other one has begun.
+#[derive(Drop)]
+struct Behind<'a> {
+    /// The worker whose put is held.
+    held: u64,
+    puts: &'a Puts,
+}
+
+impl Gate for Behind<'_> {
+    fn before<R: Wait>(&self, _rt: &R, worker: u64, _connection: u64, _call: u64) {
+        if worker != self.held && !is_set(&self.puts.begun) {
+            self.puts.late.store(1, Ordering::SeqCst);
+        }
+    }
+
+    fn after<R: Wait>(&self, _rt: &R, worker: u64, _connection: u64, _call: u64) {
+        if worker != self.held {
+            self.puts.answered.store(1, Ordering::SeqCst);
+        }
+    }
 }
 
 /// A connection whose puts may wait for those of another one.
@@ -50,9 +87,10 @@ impl Source for Slow<'_> {
 impl Sink for Slow<'_> {
     fn put(&mut self, piece: &[u8]) -> Result<usize, Failed> {
         if self.is_held {
-            wait_for(self.puts);
-        } else {
-            self.puts.free.fetch_add(1, Ordering::SeqCst);
+            self.puts.begun.store(1, Ordering::SeqCst);
+            if is_set(&self.puts.answered) {
+                self.puts.held.fetch_add(1, Ordering::SeqCst);
+            }
         }
         Ok(piece.len())
     }
@@ -60,17 +98,6 @@ impl Sink for Slow<'_> {
     fn finish(&mut self) -> Result<(), Failed> {
         self.finished = true;
         Ok(())
-    }
-}
-
-/// Waits until the other connection has made a put.
-fn wait_for(puts: &Puts) {
-    for _ in 0..MOST_LOOKS {
-        if puts.free.load(Ordering::SeqCst) == 1 {
-            puts.held.fetch_add(1, Ordering::SeqCst);
-            return;
-        }
-        yield_now();
     }
 }
 
@@ -120,19 +147,16 @@ fn door<'a>(puts: &'a Puts, is_held: bool) -> OneDoor<'a> {
     }
 }
 
-/// Whether both calls are answered where the connection of this door waits for the other one.
-fn goes_on<R: Threads + Wait + Sync>(
-    rt: &R,
-    alloc: Global,
-    service: &Service,
-    held: [bool; 2],
-) -> bool {
+/// Whether both calls are answered where the put of this worker waits for the answer of the other one.
+fn goes_on<R: Threads + Wait + Sync>(rt: &R, alloc: Global, service: &Service, held: u64) -> bool {
     let puts = Puts {
-        free: AtomicU64::new(0),
+        begun: AtomicU64::new(0),
+        answered: AtomicU64::new(0),
         held: AtomicU64::new(0),
+        late: AtomicU64::new(0),
     };
-    let gate = OpenGate::new();
-    let right = match vec![in alloc; door(&puts, held[0]), door(&puts, held[1])] {
+    let gate = Behind { held, puts: &puts };
+    let right = match vec![in alloc; door(&puts, held == 0), door(&puts, held == 1)] {
         Ok(mut doors) => {
             let served: Result<Served<Kept<Request>>, Memory> = serve(
                 rt,
@@ -158,15 +182,15 @@ fn goes_on<R: Threads + Wait + Sync>(
             false
         }
     };
-    right && puts.free.load(Ordering::SeqCst) == 1 && puts.held.load(Ordering::SeqCst) == 1
+    right && puts.held.load(Ordering::SeqCst) == 1 && puts.late.load(Ordering::SeqCst) == 0
 }
 
 #[test]
 fn a_sink_that_waits_delays_no_other_door(rt: HostRuntime) {
     let right = match count_service(rt.alloc()) {
         Ok(service) => {
-            let right = goes_on(&rt, rt.alloc(), &service, [true, false])
-                && goes_on(&rt, rt.alloc(), &service, [false, true]);
+            let right = goes_on(&rt, rt.alloc(), &service, 0)
+                && goes_on(&rt, rt.alloc(), &service, 1);
             drop(service);
             right
         }
