@@ -1,0 +1,5 @@
+mod CallDepths
+mod RunDepths
+mod PlaceDepths
+mod SeatDepths
+mod HistoryDepths

@@ -1,0 +1,6 @@
+//! Laws of services at several doors.
+#![tactic(auto)]
+
+mod laws;
+
+pub use laws::entries_are_shallow;
