@@ -1,3 +1,6 @@
 pub mod ReplyLemmas
+pub mod TreeLemmas
+pub mod KindLemmas
+pub mod FoundLemmas
 pub mod CallPieces
 pub mod TextsBack

@@ -8,7 +8,6 @@ use Rattle.serde_json.specs.Read.{read}
 use Rattle.serde_json.specs.Find.{get}
 use Rattle.serde_json.specs.Data.{Data, null, boolean, number, string, array, object}
 use Rattle.call_form.specs.declared.Reply.{Reply}
-use Rattle.call_form.specs.declared.CallFault.{CallFault}
 use Rattle.call_form.specs.declared.CallFault.TheVariants as call_fault
 use Rattle.call_form.specs.CallOf.{IsObject}
 use Rattle.call_form.specs.CallRules.{IsFlag, AreParameters}
@@ -84,7 +83,7 @@ IsError-error_of (Some (number n)) name is = absurd cc
 IsError-error_of (Some (array ds)) name is = absurd cc
 IsError-error_of (Some (object ms)) name is = absurd cc
 
-parameters_of-object : (d : Data) → IsObject d → parameters_of (Some d) ≡ Ok d
+pub parameters_of-object : (d : Data) → IsObject d → parameters_of (Some d) ≡ Ok d
 parameters_of-object null is = absurd cc
 parameters_of-object (boolean b) is = absurd cc
 parameters_of-object (number n) is = absurd cc

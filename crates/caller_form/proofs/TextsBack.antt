@@ -6,8 +6,8 @@ use Rattle.serde_json.specs.Find.{get}
 use Rattle.serde_json.specs.Written.{compact_text}
 use Rattle.call_form.specs.declared.Call.{Call}
 use Rattle.call_form.specs.declared.Reply.{Reply}
-use Rattle.call_form.specs.CallOf.{IsObject, call_of}
-use Rattle.call_form.specs.CallRules.{IsFlag, AreParameters}
+use Rattle.call_form.specs.CallOf.{call_of}
+use Rattle.call_form.specs.CallRules.{IsFlag}
 use Rattle.call_form.specs.CallText.{IsSendable, call_tree}
 use Rattle.call_form.specs.ReplyText.{IsWritable, with_continues, with_error, reply_tree, reply_bytes}
 use Rattle.call_form.proofs.TextLemmas.{compact_text-NoNul}

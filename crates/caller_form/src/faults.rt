@@ -1,4 +1,5 @@
 // Why a payload is no reply.
+use json::Invalid;
 use link_port::Memory;
 use std::error::Error;
 use std::fmt;
@@ -34,6 +35,17 @@ impl From<Memory> for ReplyFault {
 
     fn from(_memory: Memory) -> ReplyFault {
         ReplyFault::Memory
+    }
+}
+
+impl From<Invalid> for ReplyFault {
+    ghost use Rattle.std.specs.Prelude.{◌≡◌};
+    ghost use Rattle.caller_form.specs.declared.faults.ReplyFault.TheVariants as fault;
+
+    ghost from_gives = { λ _ made. made ≡ fault.NotJson };
+
+    fn from(_invalid: Invalid) -> ReplyFault {
+        ReplyFault::NotJson
     }
 }
 

@@ -2,11 +2,15 @@
 #![tactic(auto)]
 
 mod faults;
+mod heads;
+mod kinds;
 mod laws;
+mod members;
 mod reading;
 mod writing;
 
 pub use faults::ReplyFault;
+pub use heads::{Head, read_head};
 pub use laws::{call_texts_read_back, replies_are, reply_limit, reply_texts_read_back};
 pub use reading::read_reply;
 pub use writing::call_text;

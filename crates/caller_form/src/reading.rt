@@ -30,7 +30,7 @@ pub fn read_reply(alloc: Global, payload: &[u8]) -> Result<Reply, ReplyFault>
     }
 }
 
-fn utf8_text(payload: &[u8]) -> Result<&str, ReplyFault>
+pub fn utf8_text(payload: &[u8]) -> Result<&str, ReplyFault>
     ensures { MatchResult result
         (λ text. (text.now ≡ payload.now) × (utf8_of payload.now ≡ Ok payload.now))
         (λ fault. utf8_of payload.now ≡ Err fault) }

@@ -2,7 +2,8 @@
 ghost use Rattle.call_form.specs.CallText.{IsSendable};
 
 use call_form::{Call, Reply};
-use caller_form::{ReplyFault, call_text, read_reply};
+use caller_form::{ReplyFault, call_text, read_head, read_reply};
+use json::Scratch;
 use link_port::{List, Memory, Text, Value};
 use serde_json::json;
 use std::alloc::Global;
@@ -17,10 +18,21 @@ fn first_fault(alloc: Global, payload: &[u8]) -> Option<ReplyFault> {
     }
 }
 
-// Each fault of a payload, and what is no fault.
+// The same of the head alone.
+fn first_fault_of_head(alloc: Global, payload: &[u8], scratch: &mut Scratch) -> Option<ReplyFault> {
+    match read_head(alloc, payload, scratch) {
+        Ok(head) => {
+            drop(head);
+            None
+        }
+        Err(fault) => Some(fault),
+    }
+}
+
+// Each fault of a payload, and what is no fault: of the whole reply, and of its head.
 #[test]
 fn tells_the_first_fault(rt: HostRuntime) {
-    let rows: [(&[u8], Option<ReplyFault>); 15] = [
+    let rows: [(&[u8], Option<ReplyFault>); 26] = [
         (b"\xff", Some(ReplyFault::NotUtf8 { at: 0 })),
         (
             b"{\"error\":\"\xc3\"}",
@@ -48,9 +60,31 @@ fn tells_the_first_fault(rt: HostRuntime) {
             None,
         ),
         (b"{\"error\":\"\",\"x\":1.5}", None),
+        (b"{} {}", Some(ReplyFault::NotJson)),
+        (b"[] ]", Some(ReplyFault::NotJson)),
+        (b"{\"a\":1,}", Some(ReplyFault::NotJson)),
+        (b"{\"a\":[1,{\"b\":[}]}", Some(ReplyFault::NotJson)),
+        (b"{\"a\":1e308,\"b\":-1e308}", None),
+        (b"{\"a\":[{\"b\":1e309}]}", Some(ReplyFault::NotJson)),
+        (b"{\"a\":-1e309}", Some(ReplyFault::NotJson)),
+        (
+            b"{\"a\":18446744073709551616,\"b\":-9223372036854775809}",
+            None,
+        ),
+        (b"{\"error\":1,\"error\":null}", None),
+        (
+            b"{\"error\":\"a\",\"error\":[]}",
+            Some(ReplyFault::BadError),
+        ),
+        (
+            b"{\"parameters\":{},\"parameters\":1}",
+            Some(ReplyFault::BadParameters),
+        ),
     ];
+    let mut scratch = Scratch::new(rt.alloc());
     for (payload, fault) in rows {
         assert!(rt; first_fault(rt.alloc(), payload) == fault);
+        assert!(rt; first_fault_of_head(rt.alloc(), payload, &mut scratch) == fault);
     }
 }
 
@@ -98,9 +132,28 @@ fn reads_as(
     }
 }
 
+// Whether the head of a payload is read as this.
+fn heads_as(
+    alloc: Global,
+    payload: &[u8],
+    scratch: &mut Scratch,
+    continues: bool,
+    error: Option<&str>,
+) -> bool {
+    match read_head(alloc, payload, scratch) {
+        Ok(head) => {
+            let right = head.continues == continues && is_name(&head.error, error);
+            drop(head);
+            right
+        }
+        Err(_) => false,
+    }
+}
+
+// Replies, and their heads.
 #[test]
 fn reads_replies(rt: HostRuntime) {
-    let rows: [(&[u8], &str, bool, Option<&str>); 4] = [
+    let rows: [(&[u8], &str, bool, Option<&str>); 6] = [
         (b"{}", "{}", false, None),
         (
             b" {\"parameters\":{\"b\":[1.5],\"a\":\"x\"},\"continues\":true} ",
@@ -120,9 +173,23 @@ fn reads_replies(rt: HostRuntime) {
             false,
             Some(""),
         ),
+        (
+            b"{\"continues\":true,\"continues\":false,\"error\":\"a\",\"error\":\"b\"}",
+            "{}",
+            false,
+            Some("b"),
+        ),
+        (
+            b"{\"err\\u006fr\":\"\\u0061.B\",\"x\":{\"continues\":true,\"error\":null},\"parameters\":{\"error\":\"c\"}}",
+            "{\"error\":\"c\"}",
+            false,
+            Some("a.B"),
+        ),
     ];
+    let mut scratch = Scratch::new(rt.alloc());
     for (payload, parameters, continues, error) in rows {
         assert!(rt; reads_as(rt.alloc(), payload, parameters, continues, error));
+        assert!(rt; heads_as(rt.alloc(), payload, &mut scratch, continues, error));
     }
 }
 
