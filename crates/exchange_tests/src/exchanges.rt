@@ -21,6 +21,10 @@ impl Screen for NoneBad {
 
     ghost unread = { λ _ reply. option_map (λ _. codes "bad") (get (codes "bad") reply.parameters) };
 
+    fn reads_all(&self) -> bool {
+        false
+    }
+
     fn check(&self, alloc: Global, reply: &Reply) -> Result<(), Misread> {
         match reply.parameters.inner().get("bad") {
             Some(_) => Err(Misread::Field(Text::of(alloc, "bad")?)),

@@ -13,6 +13,10 @@ Reading = Reply → Option (List ℕ)
 abbrev pub any_reads : Reading
 any_reads reply = None
 
+-- there is no reply that does not read
+abbrev pub AllRead : Reading → Type 0
+AllRead unread = (reply : Reply) → unread reply ≡ None
+
 pub record Asked : Type 0 where
   pub oneway : Bool
   pub more : Bool

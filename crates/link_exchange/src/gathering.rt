@@ -10,6 +10,7 @@ use crate::ends::AskEnd;
 use crate::screens::Screen;
 use crate::verdicts::{Verdict, judge};
 use caller_form::REPLY_LIMIT;
+use json::Scratch;
 use link_port::Memory;
 use message_frame::{Frames, Next};
 use std::alloc::Global;
@@ -45,12 +46,13 @@ fn put_line<S: Screen>(
     screen: &S,
     index: u64,
     payload: &[u8],
+    scratch: &mut Scratch,
     lines: &mut Vec<u8>,
 ) -> Step
     requires { index + 1 < 2 ^ 64 }
     ensures { PutsLine (asked asking (S.unread screen.now)) index payload.now lines.old.items lines.new.items result }
 {
-    match judge(alloc, asking, screen, index, payload) {
+    match judge(alloc, asking, screen, index, payload, scratch) {
         Verdict::Goes => match append(lines, payload, asking.mark) {
             Ok(()) => Step::Passed,
             Err(Memory) => Step::Ends(AskEnd::Memory),
@@ -84,6 +86,7 @@ fn gather_one<S: Screen>(
     screen: &S,
     index: u64,
     frames: &mut Frames,
+    scratch: &mut Scratch,
     lines: &mut Vec<u8>,
 ) -> Step
     requires index { index + 1 < 2 ^ 64 }
@@ -92,7 +95,7 @@ fn gather_one<S: Screen>(
     ensures step { Steps (asked asking (S.unread screen.now)) index frames.old frames.new lines.old.items lines.new.items result }
 {
     match frames.next() {
-        Next::Payload(payload) => put_line(alloc, asking, screen, index, payload, lines),
+        Next::Payload(payload) => put_line(alloc, asking, screen, index, payload, scratch, lines),
         Next::TooLong => Step::Ends(AskEnd::TooLong { index }),
         Next::NeedMore => wait(index, frames.rest()),
     }
@@ -105,6 +108,7 @@ pub fn gather<S: Screen>(
     screen: &S,
     index: &mut u64,
     frames: &mut Frames,
+    scratch: &mut Scratch,
     lines: &mut Vec<u8>,
 ) -> Option<AskEnd>
     requires index { index.old + length frames.old.bytes < 2 ^ 63 }
@@ -118,7 +122,7 @@ pub fn gather<S: Screen>(
         lines.old.items lines.new.items) }
 {
     'messages: loop {
-        match gather_one(alloc, asking, screen, *index, frames, lines) {
+        match gather_one(alloc, asking, screen, *index, frames, scratch, lines) {
             Step::Passed => *index += 1,
             Step::Ends(end) => return Some(end),
             Step::NeedMore => return None,

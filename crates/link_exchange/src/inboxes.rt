@@ -15,6 +15,7 @@ use crate::ends::AskEnd;
 use crate::gathering::gather;
 use crate::screens::Screen;
 use caller_form::REPLY_LIMIT;
+use json::Scratch;
 use link_port::{Memory, Sink, put_all};
 use link_reach::{DialFault, LinkNo, Reach};
 use message_frame::Frames;
@@ -33,6 +34,8 @@ pub const MOST_OF_LINK: u64 = 1_099_511_627_776;
 pub struct Inbox {
     frames: Frames,
     buffer: Vec<u8>,
+    /// What replies are read with.
+    scratch: Scratch,
     /// What is passed on at once.
     lines: Vec<u8>,
     taken: u64,
@@ -59,6 +62,7 @@ impl Inbox {
         Ok(Inbox {
             frames,
             buffer: vec![in alloc; 0u8; TAKE]?,
+            scratch: Scratch::new(alloc),
             lines: Vec::new(alloc),
             taken: 0,
         })
@@ -108,6 +112,7 @@ impl Inbox {
             screen,
             index,
             &mut self.frames,
+            &mut self.scratch,
             &mut self.lines,
         );
         put_lines(end, self.lines.as_slice(), sink)

@@ -1,6 +1,7 @@
 // Which replies read.
+ghost use Rattle.std.specs.Prelude.{IsTrue};
 ghost use Rattle.call_form.specs.CallOf.{IsObject};
-ghost use Rattle.link_exchange.specs.Asked.{Reading, TellsUnread};
+ghost use Rattle.link_exchange.specs.Asked.{AllRead, Reading, TellsUnread};
 
 use call_form::Reply;
 use link_port::{Memory, Text};
@@ -31,6 +32,10 @@ pub trait Screen {
     /// The first field of a reply's parameters that does not read, if there is one.
     ghost unread: { Self → Reading };
 
+    /// Whether all replies read, so that no reply needs to be read by the screen.
+    fn reads_all(&self) -> bool
+        ensures { IsTrue result → AllRead (unread self.now) };
+
     /// Reads the parameters, an object, of a reply that is no error.
     fn check(&self, alloc: Global, reply: &Reply) -> Result<(), Misread>
         requires { IsObject reply.now.parameters }
@@ -45,6 +50,10 @@ impl Screen for Unscreened {
     ghost use Rattle.link_exchange.specs.Asked.{any_reads};
 
     ghost unread = { λ _. any_reads };
+
+    fn reads_all(&self) -> bool {
+        true
+    }
 
     fn check(&self, _alloc: Global, _reply: &Reply) -> Result<(), Misread> {
         Ok(())

@@ -1,15 +1,18 @@
 // What is made of one message.
-ghost use Rattle.std.specs.Prelude.{◌≡◌, ◌<◌, ◌+◌, ◌^◌, None};
+ghost use Rattle.std.specs.Prelude.{◌≡◌, ◌<◌, ◌+◌, ◌^◌, ◌&&◌, not, is_none, if◌then◌else◌};
 ghost use Rattle.call_form.specs.CallOf.{IsObject};
-ghost use Rattle.link_exchange.specs.Asked.{asked};
-ghost use Rattle.link_exchange.specs.Taken.{judged, goes_astray, field_of, by_field, by_reply, last_end};
+ghost use Rattle.caller_form.specs.HeadOf.{head_of};
+ghost use Rattle.caller_form.specs.ReplyOf.{reply_of};
+ghost use Rattle.link_exchange.specs.Asked.{AllRead, asked};
+ghost use Rattle.link_exchange.specs.Taken.{judged, field_of, by_reading, by_reply, last_end};
 ghost use Rattle.link_exchange.specs.Gathering.{Judges, IsOfKind, IsLast, IsAstray, fault_end, misread_end, TellsMisread};
 
 use crate::asked::Asking;
 use crate::ends::AskEnd;
 use crate::screens::{Misread, Screen};
 use call_form::Reply;
-use caller_form::{REPLY_LIMIT, ReplyFault, read_reply};
+use caller_form::{Head, REPLY_LIMIT, ReplyFault, read_head, read_reply};
+use json::Scratch;
 use link_port::Text;
 use std::alloc::Global;
 
@@ -24,13 +27,14 @@ pub enum Verdict {
     Astray(AskEnd),
 }
 
-/// Judges the payload of this index.
+/// Judges the payload of this index. The scratch serves from payload to payload.
 pub fn judge<S: Screen>(
     alloc: Global,
     asking: Asking,
     screen: &S,
     index: u64,
     payload: &[u8],
+    scratch: &mut Scratch,
 ) -> Verdict
     requires { index + 1 < 2 ^ 64 }
     ensures verdict { Judges result (judged (asked asking (S.unread screen.now)) index payload.now) }
@@ -39,6 +43,50 @@ pub fn judge<S: Screen>(
     if payload.len() as u64 > REPLY_LIMIT {
         return Verdict::Astray(AskEnd::TooLong { index });
     }
+    if screen.reads_all() {
+        judge_head(alloc, asking, screen, index, payload, scratch)
+    } else {
+        judge_reply(alloc, asking, screen, index, payload)
+    }
+}
+
+/// Judges a payload by its head alone, where all replies read.
+fn judge_head<S: Screen>(
+    alloc: Global,
+    asking: Asking,
+    screen: &S,
+    index: u64,
+    payload: &[u8],
+    scratch: &mut Scratch,
+) -> Verdict
+    requires index { index + 1 < 2 ^ 64 }
+    requires all { AllRead (S.unread screen.now) }
+    ensures verdict { Judges result (by_reading (asked asking (S.unread screen.now)) index (reply_of payload.now)) }
+    ensures kind { IsOfKind result }
+{
+    match read_head(alloc, payload, scratch) {
+        Ok(head) => if is_astray(asking.more, head.continues, &head.error) {
+            drop(head);
+            Verdict::Astray(AskEnd::Continues { index })
+        } else {
+            passed(index, head)
+        },
+        Err(fault) => Verdict::Astray(end_of_fault(index, fault)),
+    }
+}
+
+/// Judges a payload by the reply that it is.
+fn judge_reply<S: Screen>(
+    alloc: Global,
+    asking: Asking,
+    screen: &S,
+    index: u64,
+    payload: &[u8],
+) -> Verdict
+    requires { index + 1 < 2 ^ 64 }
+    ensures verdict { Judges result (by_reading (asked asking (S.unread screen.now)) index (reply_of payload.now)) }
+    ensures kind { IsOfKind result }
+{
     match read_reply(alloc, payload) {
         Ok(reply) => weigh(alloc, asking, screen, index, reply),
         Err(fault) => Verdict::Astray(end_of_fault(index, fault)),
@@ -52,12 +100,12 @@ fn weigh<S: Screen>(alloc: Global, asking: Asking, screen: &S, index: u64, reply
     ensures verdict { Judges result (by_reply (asked asking (S.unread screen.now)) index reply) }
     ensures kind { IsOfKind result }
 {
-    if is_astray(asking.more, &reply) {
+    if is_astray(asking.more, reply.continues, &reply.error) {
         drop(reply);
         return Verdict::Astray(AskEnd::Continues { index });
     }
     match misread(alloc, screen, &reply) {
-        None => passed(index, reply),
+        None => passed(index, head(reply)),
         Some(misread) => {
             drop(reply);
             Verdict::Astray(end_of_misread(index, misread))
@@ -65,11 +113,24 @@ fn weigh<S: Screen>(alloc: Global, asking: Asking, screen: &S, index: u64, reply
     }
 }
 
-/// Whether a reply says that another follows, though none may.
-fn is_astray(more: bool, reply: &Reply) -> bool
-    ensures { result ≡ goes_astray more reply.now }
+/// The head of a reply.
+fn head(reply: Reply) -> Head
+    ensures { result ≡ head_of reply }
 {
-    reply.continues && !(more && reply.error.is_none())
+    let Reply {
+        parameters,
+        continues,
+        error,
+    } = reply;
+    drop(parameters);
+    Head { continues, error }
+}
+
+/// Whether a reply says that another follows, though none may.
+fn is_astray(more: bool, continues: bool, error: &Option<Text>) -> bool
+    ensures { result ≡ (continues && not (more && is_none error.now)) }
+{
+    continues && !(more && error.is_none())
 }
 
 /// Why a reply does not read; nothing is read of an error.
@@ -86,18 +147,13 @@ fn misread<S: Screen>(alloc: Global, screen: &S, reply: &Reply) -> Option<Misrea
     }
 }
 
-/// What is made of a reply that is passed on.
-fn passed(index: u64, reply: Reply) -> Verdict
+/// What is made of a reply of this head that is passed on.
+fn passed(index: u64, head: Head) -> Verdict
     requires { index + 1 < 2 ^ 64 }
-    ensures verdict { result ≡ by_field index reply None }
+    ensures verdict { result ≡ (if head.continues then Verdict.Goes else Verdict.Last (last_end index head.error)) }
     ensures kind { IsOfKind result }
 {
-    let Reply {
-        parameters,
-        continues,
-        error,
-    } = reply;
-    drop(parameters);
+    let Head { continues, error } = head;
     if continues {
         drop(error);
         Verdict::Goes

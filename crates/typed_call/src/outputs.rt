@@ -17,6 +17,10 @@ impl Screen for ByOutput {
 
     ghost unread = { λ screen. reading screen.described };
 
+    fn reads_all(&self) -> bool {
+        false
+    }
+
     fn check(&self, alloc: Global, reply: &Reply) -> Result<(), Misread> {
         match self.described.check(alloc, &reply.parameters) {
             Ok(()) => Ok(()),
