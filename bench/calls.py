@@ -6,9 +6,13 @@ Usage: bench/calls.py [PROGRAM]     (default: crates/varlink/out/varlink, built 
 A service of the bench's own streams replies to one call. It prints how long `call --more` takes to pass on 100,000 and a
 million of them, how long a plain copy of the same bytes from the same socket to the same place takes, the ratio, the peak
 memory of each run, and what one call of one reply costs from start to end. With `--typed` the replies are read before. What
-a run of no replies takes, which is mostly the start of a program, is taken off each time.
+a run of no replies takes, which is mostly the start of a program, is taken off each time. Of seven runs the fastest is told.
+
+It needs a C compiler as `cc` (Debian: gcc), and builds bench/copy.c in a temporary folder. Where there is none it says so, and
+ends with status 2.
 """
 import os
+import shutil
 import socket
 import subprocess
 import sys
@@ -20,14 +24,7 @@ TOP = os.path.dirname(os.path.dirname(os.path.abspath(__file__)))
 DEFINITION = b'{"parameters":{"description":"interface a.b method List() -> (done: bool, name: ?string)"}}\0'
 REPLY = b'{"continues":true,"parameters":{"done":false,"name":"an entry"}}\0'
 LAST = b'{"parameters":{"done":true}}\0'
-COPY = """
-import socket, sys, os
-link = socket.socket(socket.AF_UNIX); link.connect(sys.argv[1]); link.sendall(b'{}\\0')
-while True:
-    piece = link.recv(65536)
-    if not piece: break
-    os.write(1, piece)
-"""
+RUNS = 7
 
 
 def serve(path, many):
@@ -92,9 +89,18 @@ def watched(pid, peak):
 
 
 def least(words, path, many, out):
-    """The least time of three runs, and the greatest size."""
-    runs = [timed(words, path, many, out) for _ in range(3)]
+    """The least time of seven runs, and the greatest size."""
+    runs = [timed(words, path, many, out) for _ in range(RUNS)]
     return min(run[0] for run in runs), max(run[1] for run in runs)
+
+
+def built(folder):
+    """The program that copies, built there."""
+    copy = os.path.join(folder, "copy")
+    if shutil.which("cc") is None or subprocess.run(["cc", "-O2", "-o", copy, os.path.join(TOP, "bench", "copy.c")]).returncode:
+        print("bench/calls.py: a C compiler is needed as cc (Debian: gcc).", file=sys.stderr)
+        sys.exit(2)
+    return copy
 
 
 def main():
@@ -102,7 +108,7 @@ def main():
     with tempfile.TemporaryDirectory() as folder:
         path = os.path.join(folder, "s")
         call = [program, "call", "--at", "unix:" + path]
-        copy = [sys.executable, "-c", COPY, path]
+        copy = [built(folder), path]
         plain = [*call, "--more", "a.b.List"]
         typed = [*call, "--typed", "--more", "a.b.List"]
         with open(os.path.join(folder, "out"), "wb") as out:
@@ -115,7 +121,7 @@ def main():
                 runs.append((took - start, peak))
             with open(os.path.join(folder, "out"), "rb") as out:
                 lines = out.read().count(b"\n")
-            assert lines == 3 * (many + 1), lines
+            assert lines == RUNS * (many + 1), lines
             print(f"{many} replies: copy {runs[0][0]:.3f} s, " + ", ".join(
                 f"{name} {took:.3f} s ({took / runs[0][0]:.1f} times, peak {peak} KiB)"
                 for name, (took, peak) in zip(("call", "typed"), runs[1:])))
