@@ -94,7 +94,7 @@ fn pass_members(reader: &mut Reader<'_>, depth: usize) -> Result<(), Invalid>
 }
 
 // Whether the number of this text is in range: an integer of 64 bits, or nearest to a finite float.
-fn is_in_range(text: &str) -> bool
+pub fn is_in_range(text: &str) -> bool
     ensures { result ≡ is_some (number_of text.now) }
 {
     let bytes = text.as_bytes();

@@ -1,6 +1,7 @@
 //! The messages of Varlink as a caller has them: calls written as text, replies read from payloads.
 #![tactic(auto)]
 
+mod compact;
 mod faults;
 mod heads;
 mod kinds;

@@ -9,7 +9,7 @@ use crate::kinds::{Kind, pass_token, pass_value};
 use json::{Invalid, Reader, Scratch, Token};
 
 // How deep the message may nest.
-const MAX_DEPTH: usize = 127;
+pub const MAX_DEPTH: usize = 127;
 
 // The kinds of the members that a reply has. One that is absent is told as null.
 #[derive(Clone, Copy, Drop)]
@@ -21,7 +21,7 @@ pub struct Found<'a> {
 
 impl<'a> Found<'a> {
     // With one member more, which takes the place of one of its name.
-    fn with(self, name: &str, kind: Kind<'a>) -> Found<'a>
+    pub fn with(self, name: &str, kind: Kind<'a>) -> Found<'a>
         ensures { (ms : Members) (tree : Data) → AreFound self.entry ms → IsOfKind kind.entry tree
             → AreFound result (put name.now tree ms) }
     {

@@ -32,7 +32,7 @@ fn first_fault_of_head(alloc: Global, payload: &[u8], scratch: &mut Scratch) -> 
 // Each fault of a payload, and what is no fault: of the whole reply, and of its head.
 #[test]
 fn tells_the_first_fault(rt: HostRuntime) {
-    let rows: [(&[u8], Option<ReplyFault>); 26] = [
+    let rows: [(&[u8], Option<ReplyFault>); 32] = [
         (b"\xff", Some(ReplyFault::NotUtf8 { at: 0 })),
         (
             b"{\"error\":\"\xc3\"}",
@@ -80,6 +80,12 @@ fn tells_the_first_fault(rt: HostRuntime) {
             b"{\"parameters\":{},\"parameters\":1}",
             Some(ReplyFault::BadParameters),
         ),
+        (b"{\"a\":\"\x01\"}", Some(ReplyFault::NotJson)),
+        (b"{\"a\":\"x}", Some(ReplyFault::NotJson)),
+        (b"{\"a\":[tru]}", Some(ReplyFault::NotJson)),
+        (b"{\"a\":[01]}", Some(ReplyFault::NotJson)),
+        (b"{\"a\":[[],{},]}", Some(ReplyFault::NotJson)),
+        (b"{}}", Some(ReplyFault::NotJson)),
     ];
     let mut scratch = Scratch::new(rt.alloc());
     for (payload, fault) in rows {
@@ -153,7 +159,7 @@ fn heads_as(
 // Replies, and their heads.
 #[test]
 fn reads_replies(rt: HostRuntime) {
-    let rows: [(&[u8], &str, bool, Option<&str>); 6] = [
+    let rows: [(&[u8], &str, bool, Option<&str>); 7] = [
         (b"{}", "{}", false, None),
         (
             b" {\"parameters\":{\"b\":[1.5],\"a\":\"x\"},\"continues\":true} ",
@@ -184,6 +190,12 @@ fn reads_replies(rt: HostRuntime) {
             "{\"error\":\"c\"}",
             false,
             Some("a.B"),
+        ),
+        (
+            b"{\"parameters\":{\"a\":[1,true,false,null,\"x\",{\"b\":-1.5e3}],\"c\":[[],{}]},\"continues\":true}",
+            "{\"a\":[1,true,false,null,\"x\",{\"b\":-1500.0}],\"c\":[[],{}]}",
+            true,
+            None,
         ),
     ];
     let mut scratch = Scratch::new(rt.alloc());
