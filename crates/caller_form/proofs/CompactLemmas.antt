@@ -1,8 +1,9 @@
 -- Compact texts: what is passed over is a value of JSON, and the reader of tokens reads it as that.
-use Rattle.std.proofs.Common.{◌≡◌, ℕ, ◌+◌, ◌-◌, ◌<◌, ◌≤◌, List, [], ◌∷◌, ◌++◌, length, take, get_or, true, false, is_some, Option, Some, None, option_map, option_and_then, Ok, refl, sym, ap, ◌∙◌, inl, arith, append_assoc, append-nil}
+use Rattle.std.proofs.Common.{◌≡◌, ℕ, ◌+◌, ◌-◌, ◌<◌, ◌≤◌, List, [], ◌∷◌, ◌++◌, length, take, get_or, codes, Bool, true, false, true≢false, is_some, Option, Some, None, option_map, option_and_then, Ok, refl, sym, ap, ◌∙◌, subst, arith, append_assoc, append-nil}
 use Rattle.std.specs.Prelude.{IfSome}
 use Rattle.std.proofs.lemmas.List.{take_more}
 use Rattle.std.proofs.lemmas.Grind.{flat_map-append}
+use Rattle.std.proofs.lemmas.Slice.Eq.{bytes_eq-Decides}
 use Rattle.json.specs.Token.{Token}
 use Rattle.json.specs.Json as json
 use Rattle.json.specs.Json.{value, if_last}
@@ -14,14 +15,13 @@ use Rattle.json.proofs.Printed.Strings.{escape_byte_plain}
 use Rattle.json.proofs.Printed.Tokens.{tokens-print}
 use Rattle.json.proofs.Printed.Trees.{value-json_tokens, ArePrintable-json_tokens}
 use Rattle.serde_json.specs.Data.{Data, Num, null, boolean, number, string, array, object, Items, no_items, item, Members, no_members, put}
+use Rattle.serde_json.specs.Find.{get_member}
 use Rattle.serde_json.specs.Read.{of_json, of_items, of_members, number_of, read}
+use Rattle.serde_json.proofs.Views.{get_member-put, get_member-put_other}
 use Rattle.caller_form.specs.declared.compact.Sort.{Sort}
 use Rattle.caller_form.specs.declared.compact.Sort.TheVariants as sort
-use Rattle.caller_form.specs.declared.members.Found.{Found}
-use Rattle.caller_form.specs.declared.kinds.Kind.TheVariants as kind
-use Rattle.caller_form.specs.ReplyOf.{json_of, found_json}
-use Rattle.caller_form.specs.HeadOf.{AreFound, TellsMembers}
-use Rattle.caller_form.specs.Compact.{IsPlain, text_of, items_text, members_text, HasPlain, ItemsHavePlain, MembersHavePlain, IsCompact, AreCompactItems, AreCompactMembers, IsWord, TakesValue, TakesMember, TakesItems, TakesMembers, TakesFound, IsOfSort}
+use Rattle.caller_form.specs.ReplyOf.{utf8_of, json_of, found_json, continues_of, error_of, parameters_of, reply_in, reply_of}
+use Rattle.caller_form.specs.Compact.{IsPlain, text_of, items_text, members_text, HasPlain, ItemsHavePlain, MembersHavePlain, IsCompact, AreCompactItems, AreCompactMembers, IsWord, IsOfSort, TakesValue, TakesMember, TakesItems, TakesMembers, TakesReply, AreBare, TellsHead}
 
 pub on_some : {A : Type 0} (r : Option A) (P Q : A → Type 0) → IfSome r P → ((a : A) → P a → Q a) → IfSome r Q
 on_some None P Q is f = tt
@@ -80,14 +80,14 @@ word_takes sort.Null text word rest is front = record {
   compact = record { numbers = tt; plain = tt; shallow = omega arith; reads = refl };
   sort = refl;
 }
-word_takes (sort.Flag true) text word rest is front = record {
+word_takes sort.True text word rest is front = record {
   j = json.boolean true;
   tree = boolean true;
   front = front ∙ ap (λ w. w ++ rest) is;
   compact = record { numbers = tt; plain = tt; shallow = omega arith; reads = refl };
   sort = refl;
 }
-word_takes (sort.Flag false) text word rest is front = record {
+word_takes sort.False text word rest is front = record {
   j = json.boolean false;
   tree = boolean false;
   front = front ∙ ap (λ w. w ++ rest) is;
@@ -100,8 +100,8 @@ word_takes sort.Other text word rest is front = absurd is
 
 pub word_some : (found : Sort) (word : List ℕ) → IsWord found word → 0 < length word
 word_some sort.Null word is = omega (arith, ap length is)
-word_some (sort.Flag true) word is = omega (arith, ap length is)
-word_some (sort.Flag false) word is = omega (arith, ap length is)
+word_some sort.True word is = omega (arith, ap length is)
+word_some sort.False word is = omega (arith, ap length is)
 word_some sort.Text word is = absurd is
 word_some sort.Object word is = absurd is
 word_some sort.Other word is = absurd is
@@ -304,8 +304,9 @@ compact_read j tree is =
     (ap (option_and_then (λ p. if_last p.0 p.1)) (ap (value 127) (compact_tokens j is.numbers is.plain) ∙ value-json_tokens j 127 [] is.shallow))
     ∙ is.reads
 
-pub tells_found : (text inside : List ℕ) (found : Found) → text ≡ 123 ∷ inside → TakesFound 126 inside found [] → TellsMembers text (Ok found)
-tells_found text inside found opens t =
+pub tells_head : (text inside : List ℕ) (continues : Bool) → text ≡ 123 ∷ inside → TakesReply 126 inside continues [] → TellsHead text continues
+unfolding reply_in
+tells_head text inside continues opens t =
     let whole : text ≡ text_of (json.object t.ms) = opens ∙ t.front ∙ append-nil (text_of (json.object t.ms)) in
     let compact : IsCompact 127 (json.object t.ms) (object t.trees) = record {
       numbers = t.compact.numbers;
@@ -313,21 +314,64 @@ tells_found text inside found opens t =
       shallow = omega (arith, t.compact.shallow);
       reads = ap (option_map object) t.compact.reads;
     } in
-    (t.trees, ap json_of whole ∙ ap found_json (compact_read (json.object t.ms) (object t.trees) compact), t.kinds)
+    (t.trees, ap json_of whole ∙ ap found_json (compact_read (json.object t.ms) (object t.trees) compact), rw (t.bare.follows, t.bare.no_error, t.bare.given.1))
 
--- ---- the members that a reply has
+pub reply_told : (payload : List ℕ) (ms : Members) → utf8_of payload ≡ Ok payload → json_of payload ≡ Ok (object ms) → reply_of payload ≡ reply_in (object ms)
+unfolding reply_of
+reply_told payload ms utf8 json = rw (utf8, json)
 
-none_found : AreFound (record { continues = kind.Null; error = kind.Null; parameters = kind.Null }) no_members
-none_found = record { continues = inl refl; error = inl refl; parameters = inl refl }
+-- ---- the members of a reply without an error
 
-pub none_take : (most : ℕ) (text rest : List ℕ) → text ≡ 125 ∷ rest → TakesFound most text (record { continues = kind.Null; error = kind.Null; parameters = kind.Null }) rest
+none_bare : AreBare false no_members
+none_bare = record { follows = refl; no_error = refl; given = (object no_members, refl) }
+
+pub none_take : (most : ℕ) (text rest : List ℕ) → text ≡ 125 ∷ rest → TakesReply most text false rest
 none_take most text rest is = record {
   ms = json.no_members;
   trees = no_members;
   front = ap (λ (l : List ℕ). 123 ∷ l) is;
   compact = no_more_members most no_members;
-  kinds = none_found;
+  bare = none_bare;
 }
+
+module _ (name : List ℕ) (tree : Data) (ms : Members) (before : Bool) (are : AreBare before ms) where
+  placed : (there : List ℕ) → name ≡ there → get_member there (put name tree ms) ≡ Some tree
+  placed there same = subst (λ (n : List ℕ). get_member n (put name tree ms) ≡ Some tree) same (get_member-put name tree ms)
+
+  stays : (there : List ℕ) → (there ≡ name → ⊥) → get_member there (put name tree ms) ≡ get_member there ms
+  stays there other = get_member-put_other there name tree ms other
+
+  pub bare_continues : (after : Bool) → name ≡ codes "continues" → continues_of (Some tree) ≡ Ok after → AreBare after (put name tree ms)
+  bare_continues after same is = record {
+    follows = ap continues_of (placed (codes "continues") same) ∙ is;
+    no_error = ap error_of (stays (codes "error") (λ e. true≢false (sym ((bytes_eq-Decides (codes "error") (codes "continues")).1 (e ∙ same))))) ∙ are.no_error;
+    given = (are.given.0, ap parameters_of (stays (codes "parameters") (λ e. true≢false (sym ((bytes_eq-Decides (codes "parameters") (codes "continues")).1 (e ∙ same))))) ∙ are.given.1);
+  }
+
+  pub bare_error : name ≡ codes "error" → error_of (Some tree) ≡ Ok None → AreBare before (put name tree ms)
+  bare_error same is = record {
+    follows = ap continues_of (stays (codes "continues") (λ e. true≢false (sym ((bytes_eq-Decides (codes "continues") (codes "error")).1 (e ∙ same))))) ∙ are.follows;
+    no_error = ap error_of (placed (codes "error") same) ∙ is;
+    given = (are.given.0, ap parameters_of (stays (codes "parameters") (λ e. true≢false (sym ((bytes_eq-Decides (codes "parameters") (codes "error")).1 (e ∙ same))))) ∙ are.given.1);
+  }
+
+  pub bare_parameters : name ≡ codes "parameters" → (parameters : Data) × (parameters_of (Some tree) ≡ Ok parameters) → AreBare before (put name tree ms)
+  bare_parameters same is = record {
+    follows = ap continues_of (stays (codes "continues") (λ e. true≢false (sym ((bytes_eq-Decides (codes "continues") (codes "parameters")).1 (e ∙ same))))) ∙ are.follows;
+    no_error = ap error_of (stays (codes "error") (λ e. true≢false (sym ((bytes_eq-Decides (codes "error") (codes "parameters")).1 (e ∙ same))))) ∙ are.no_error;
+    given = (is.0, ap parameters_of (placed (codes "parameters") same) ∙ is.1);
+  }
+
+  pub bare_other : (name ≡ codes "continues" → ⊥) → (name ≡ codes "error" → ⊥) → (name ≡ codes "parameters" → ⊥) → AreBare before (put name tree ms)
+  bare_other a b d = record {
+    follows = ap continues_of (stays (codes "continues") (λ e. a (sym e))) ∙ are.follows;
+    no_error = ap error_of (stays (codes "error") (λ e. b (sym e))) ∙ are.no_error;
+    given = (are.given.0, ap parameters_of (stays (codes "parameters") (λ e. d (sym e))) ∙ are.given.1);
+  }
+
+-- what an object or null gives as parameters
+pub null_given : (tree : Data) → tree ≡ null → (parameters : Data) × (parameters_of (Some tree) ≡ Ok parameters)
+null_given tree is = (object no_members, ap (λ (d : Data). parameters_of (Some d)) is)
 
 -- what completes the members before, completes all
 abbrev pub Completes : ℕ → List ℕ → List ℕ → Members → Type 0
@@ -335,10 +379,9 @@ Completes most text left before =
     (more : json.Members) (after : Members) (rest : List ℕ) → left ≡ members_text more ++ rest → AreCompactMembers most more before after →
     (ms : json.Members) × (123 ∷ text ≡ text_of (json.object ms) ++ rest) × AreCompactMembers most ms no_members after
 
-pub first_found : (most : ℕ) (text name left : List ℕ) (found : Sort) (t : TakesMember most text name found left) (kinds : Found) →
-    ((ms : Members) (tree : Data) → AreFound (record { continues = kind.Null; error = kind.Null; parameters = kind.Null }) ms → IsOfSort found tree → AreFound kinds (put name tree ms)) →
-    AreFound kinds (put name t.tree no_members)
-first_found most text name left found t kinds more = more no_members t.tree none_found t.sort
+pub first_bare : (most : ℕ) (text name left : List ℕ) (found : Sort) (t : TakesMember most text name found left) (continues : Bool) →
+    ((ms : Members) (tree : Data) → AreBare false ms → IsOfSort found tree → AreBare continues (put name tree ms)) → AreBare continues (put name t.tree no_members)
+first_bare most text name left found t continues more = more no_members t.tree none_bare t.sort
 
 pub first_completes : (most : ℕ) (text name left : List ℕ) (found : Sort) (t : TakesMember most text name found left) → Completes most text left (put name t.tree no_members)
 first_completes most text name left found t more after rest is are = (
@@ -354,8 +397,8 @@ next_completes most text left next name after found before comma t completes mor
     (comma ∙ ap (λ (l : List ℕ). 44 ∷ l) (behind_member next name (text_of t.j) after (members_text more) rest t.front is))
     (members_more most name t.j t.tree more before end t.is_plain t.compact are)
 
-pub all_found : (most : ℕ) (text left rest : List ℕ) (found : Found) (before : Members) → left ≡ 125 ∷ rest → Completes most text left before → AreFound found before →
-    TakesFound most text found rest
-all_found most text left rest found before is completes are =
+pub all_taken : (most : ℕ) (text left rest : List ℕ) (continues : Bool) (before : Members) → left ≡ 125 ∷ rest → Completes most text left before → AreBare continues before →
+    TakesReply most text continues rest
+all_taken most text left rest continues before is completes are =
     let done = completes json.no_members before rest is (no_more_members most before) in
-    record { ms = done.0; trees = before; front = done.1; compact = done.2; kinds = are }
+    record { ms = done.0; trees = before; front = done.1; compact = done.2; bare = are }

@@ -1,17 +1,18 @@
 -- JSON values written compactly, with strings that have no escapes (RFC 8259, 2 "JSON Grammar"): no byte stands between
 -- the tokens but commas and colons.
-use Rattle.std.specs.Prelude.{◌≡◌, ℕ, ◌≤◌, List, [], ◌∷◌, ◌++◌, true, false, Some, ⊤}
+use Rattle.std.specs.Prelude.{◌≡◌, ℕ, ◌≤◌, List, [], ◌∷◌, ◌++◌, Bool, true, false, codes, Some, None, Ok, ⊤}
 use Rattle.json.specs.Json as json
 use Rattle.json.specs.Print.{escape}
 use Rattle.json.specs.Tree.{depth, items_depth, members_depth, HasNumbers, ItemsHaveNumbers, MembersHaveNumbers}
-use Rattle.serde_json.specs.Data.{Data, null, boolean, Items, Members, no_members}
+use Rattle.serde_json.specs.Data.{Data, null, boolean, object, Items, Members, no_members}
+use Rattle.serde_json.specs.Find.{get_member}
 use Rattle.serde_json.specs.Read.{of_json, of_items, of_members}
 use Rattle.call_form.specs.CallOf.{IsObject}
 use Rattle.caller_form.specs.Kinds.{IsOther}
-use Rattle.caller_form.specs.HeadOf.{AreFound}
+use Rattle.caller_form.specs.ReplyOf.{continues_of, error_of, parameters_of, json_of, reply_in}
+use Rattle.caller_form.specs.HeadOf.{head_or_fault}
 use Rattle.caller_form.specs.declared.compact.Sort.{Sort}
 use Rattle.caller_form.specs.declared.compact.Sort.TheVariants as sort
-use Rattle.caller_form.specs.declared.members.Found.{Found}
 
 -- a string that is written without escapes
 abbrev pub IsPlain : List ℕ → Type 0
@@ -80,14 +81,15 @@ pub record AreCompactMembers (most : ℕ) (ms : json.Members) (before after : Me
 -- the word that a value of this sort is written as, if its sort tells it
 abbrev pub IsWord : Sort → List ℕ → Type 0
 IsWord sort.Null word = word ≡ 110 ∷ 117 ∷ 108 ∷ 108 ∷ []
-IsWord (sort.Flag true) word = word ≡ 116 ∷ 114 ∷ 117 ∷ 101 ∷ []
-IsWord (sort.Flag false) word = word ≡ 102 ∷ 97 ∷ 108 ∷ 115 ∷ 101 ∷ []
+IsWord sort.True word = word ≡ 116 ∷ 114 ∷ 117 ∷ 101 ∷ []
+IsWord sort.False word = word ≡ 102 ∷ 97 ∷ 108 ∷ 115 ∷ 101 ∷ []
 IsWord _ word = ⊥
 
 -- of a string nothing is told
 abbrev pub IsOfSort : Sort → Data → Type 0
 IsOfSort sort.Null tree = tree ≡ null
-IsOfSort (sort.Flag flag) tree = tree ≡ boolean flag
+IsOfSort sort.True tree = tree ≡ boolean true
+IsOfSort sort.False tree = tree ≡ boolean false
 IsOfSort sort.Text tree = ⊤
 IsOfSort sort.Object tree = IsObject tree
 IsOfSort sort.Other tree = IsOther tree
@@ -122,10 +124,21 @@ pub record TakesMembers (most : ℕ) (text rest : List ℕ) : Type 0 where
   pub front : 123 ∷ text ≡ text_of (json.object ms) ++ rest
   pub compact : (before : Members) → (after : Members) × AreCompactMembers most ms before after
 
--- the members of an object that was opened, and the kinds of those that a reply has
-pub record TakesFound (most : ℕ) (text : List ℕ) (found : Found) (rest : List ℕ) : Type 0 where
+-- the members of a reply without an error, which tells this of the next one
+pub record AreBare (continues : Bool) (ms : Members) : Type 0 where
+  pub follows : continues_of (get_member (codes "continues") ms) ≡ Ok continues
+  pub no_error : error_of (get_member (codes "error") ms) ≡ Ok None
+  pub given : (parameters : Data) × (parameters_of (get_member (codes "parameters") ms) ≡ Ok parameters)
+
+-- the members of such a reply, whose object was opened
+pub record TakesReply (most : ℕ) (text : List ℕ) (continues : Bool) (rest : List ℕ) : Type 0 where
   pub ms : json.Members
   pub trees : Members
   pub front : 123 ∷ text ≡ text_of (json.object ms) ++ rest
   pub compact : AreCompactMembers most ms no_members trees
-  pub kinds : AreFound found trees
+  pub bare : AreBare continues trees
+
+-- the text is such a reply
+abbrev pub TellsHead : List ℕ → Bool → Type 0
+TellsHead text continues =
+    (ms : Members) × (json_of text ≡ Ok (object ms)) × (head_or_fault (reply_in (object ms)) ≡ Ok (record { continues = continues; error = None }))

@@ -1,14 +1,13 @@
 // Compact JSON without escapes, passed over byte by byte: what most replies are. Any other text is left to the reader
 // of tokens.
-ghost use Rattle.std.specs.Prelude.{◌≡◌, ◌≤◌, ◌<◌, ◌∷◌, ◌++◌, take, length, IfSome, Ok};
+ghost use Rattle.std.specs.Prelude.{◌≡◌, ◌≤◌, ◌<◌, ◌∷◌, ◌++◌, take, length, IfSome, IsTrue, Some, None, Ok};
 ghost use Rattle.serde_json.specs.Data.{Data, Members, put};
-ghost use Rattle.caller_form.specs.Compact.{IsPlain, TakesValue, TakesMember, TakesItems, TakesMembers, TakesFound};
-ghost use Rattle.caller_form.specs.Compact.{IsOfSort, IsWord};
-ghost use Rattle.caller_form.specs.Kinds.{IsOfKind};
-ghost use Rattle.caller_form.specs.HeadOf.{AreFound, TellsMembers};
+ghost use Rattle.caller_form.specs.ReplyOf.{continues_of, error_of, parameters_of};
+ghost use Rattle.caller_form.specs.Compact.{IsPlain, TakesValue, TakesMember, TakesItems, TakesMembers, TakesReply};
+ghost use Rattle.caller_form.specs.Compact.{AreBare, IsOfSort, IsWord, TellsHead};
 
-use crate::kinds::{Kind, is_in_range};
-use crate::members::{Found, MAX_DEPTH};
+use crate::kinds::is_in_range;
+use crate::members::MAX_DEPTH;
 use json::is_number;
 use simdutf8::compat;
 
@@ -16,7 +15,8 @@ use simdutf8::compat;
 #[derive(Clone, Copy, Drop)]
 pub enum Sort {
     Null,
-    Flag(bool),
+    True,
+    False,
     Text,
     Object,
     // A number or an array.
@@ -38,65 +38,93 @@ struct Member<'a> {
     rest: &'a [u8],
 }
 
-// The members of the object that a compact text is.
-pub fn compact_members(text: &str) -> Option<Found<'_>>
-    ensures { IfSome result (λ found. TellsMembers text.now (Ok found)) }
+// Whether another reply follows one without an error, where its text is compact.
+pub fn compact_head(text: &str) -> Option<bool>
+    ensures { IfSome result (λ continues. TellsHead text.now continues) }
 {
     let inside = behind(text.as_bytes(), b'{')?;
-    let (found, rest) = take_found(inside, MAX_DEPTH - 1)?;
-    if rest.is_empty() { Some(found) } else { None }
+    let (continues, rest) = take_reply(inside, MAX_DEPTH - 1)?;
+    if rest.is_empty() {
+        Some(continues)
+    } else {
+        None
+    }
 }
 
-fn take_found<'a>(text: &'a [u8], depth: usize) -> Option<(Found<'a>, &'a [u8])>
-    ensures { IfSome result (λ r. TakesFound depth text.now r.0 r.1.now) }
+fn take_reply<'a>(text: &'a [u8], depth: usize) -> Option<(bool, &'a [u8])>
+    ensures { IfSome result (λ r. TakesReply depth text.now r.0 r.1.now) }
 {
-    let mut found = Found {
-        continues: Kind::Null,
-        error: Kind::Null,
-        parameters: Kind::Null,
-    };
     if let Some(rest) = behind(text, b'}') {
-        return Some((found, rest));
+        return Some((false, rest));
     }
     let first = take_member(text, depth)?;
-    found = with(found, first)?;
+    let mut continues = with(false, first)?;
     let mut left = first.rest;
     'members: while let Some(next) = behind(left, b',') {
         let member = take_member(next, depth)?;
-        found = with(found, member)?;
+        continues = with(continues, member)?;
         left = member.rest;
     }
     let rest = behind(left, b'}')?;
-    Some((found, rest))
+    Some((continues, rest))
 }
 
-// With one member more.
-fn with<'a>(found: Found<'a>, member: Member<'_>) -> Option<Found<'a>>
-    ensures { IfSome result (λ after. (ms : Members) (tree : Data) → AreFound found.entry ms
-        → IsOfSort member.entry.sort tree → AreFound after (put member.entry.name.now tree ms)) }
+// Whether another reply follows, with one member more.
+#[inline(always)]
+fn with(continues: bool, member: Member<'_>) -> Option<bool>
+    ensures { IfSome result (λ after. (ms : Members) (tree : Data) → AreBare continues ms
+        → IsOfSort member.entry.sort tree → AreBare after (put member.entry.name.now tree ms)) }
 {
     if member.name == b"continues".as_slice() {
-        Some(found.with("continues", member.sort.kind()?))
+        member.sort.flag()
     } else if member.name == b"error".as_slice() {
-        Some(found.with("error", member.sort.kind()?))
+        if member.sort.is_null() {
+            Some(continues)
+        } else {
+            None
+        }
     } else if member.name == b"parameters".as_slice() {
-        Some(found.with("parameters", member.sort.kind()?))
+        if member.sort.may_be_parameters() {
+            Some(continues)
+        } else {
+            None
+        }
     } else {
-        Some(found)
+        Some(continues)
     }
 }
 
 impl Sort {
-    // The kind, which is not told of a string.
-    fn kind<'a>(self) -> Option<Kind<'a>>
-        ensures { IfSome result (λ kind. (tree : Data) → IsOfSort self tree → IsOfKind kind tree) }
+    // What `continues` tells.
+    #[inline(always)]
+    fn flag(self) -> Option<bool>
+        ensures { IfSome result (λ flag. (tree : Data) → IsOfSort self tree → continues_of (Some tree) ≡ Ok flag) }
     {
         match self {
-            Sort::Null => Some(Kind::Null),
-            Sort::Flag(flag) => Some(Kind::Flag(flag)),
-            Sort::Object => Some(Kind::Object),
-            Sort::Other => Some(Kind::Other),
-            Sort::Text => None,
+            Sort::Null | Sort::False => Some(false),
+            Sort::True => Some(true),
+            Sort::Text | Sort::Object | Sort::Other => None,
+        }
+    }
+
+    #[inline(always)]
+    fn is_null(self) -> bool
+        ensures { IsTrue result → (tree : Data) → IsOfSort self tree → error_of (Some tree) ≡ Ok None }
+    {
+        match self {
+            Sort::Null => true,
+            _ => false,
+        }
+    }
+
+    #[inline(always)]
+    fn may_be_parameters(self) -> bool
+        ensures { IsTrue result → (tree : Data) → IsOfSort self tree
+            → (parameters : Data) × (parameters_of (Some tree) ≡ Ok parameters) }
+    {
+        match self {
+            Sort::Null | Sort::Object => true,
+            _ => false,
         }
     }
 }
@@ -110,8 +138,8 @@ fn take_value<'a>(text: &'a [u8], depth: usize) -> Option<Passed<'a>>
         b'"' => take_string(text),
         b'{' => take_object(text, depth),
         b'[' => take_array(text, depth),
-        b't' => take_word(text, "true", Sort::Flag(true)),
-        b'f' => take_word(text, "false", Sort::Flag(false)),
+        b't' => take_word(text, "true", Sort::True),
+        b'f' => take_word(text, "false", Sort::False),
         b'n' => take_word(text, "null", Sort::Null),
         _ => take_number(text),
     }

@@ -4,7 +4,7 @@ ghost use Rattle.serde_json.specs.Data.{Data, Members, object};
 ghost use Rattle.caller_form.specs.ReplyOf.{Reads, reply_in, continues_of, error_of, parameters_of};
 ghost use Rattle.caller_form.specs.HeadOf.{AreFound, IsMember, ReadsHead, ReadsParameters, head_or_fault};
 
-use crate::compact::compact_members;
+use crate::compact::compact_head;
 use crate::faults::ReplyFault;
 use crate::kinds::Kind;
 use crate::members::{Found, members_of};
@@ -31,10 +31,13 @@ pub fn read_head(alloc: Global, payload: &[u8], scratch: &mut Scratch) -> Result
     ensures { ReadsHead payload.now result }
 {
     let text = utf8_text(payload)?;
-    let found = match compact_members(text) {
-        Some(found) => found,
-        None => members_of(text, scratch)?,
-    };
+    if let Some(continues) = compact_head(text) {
+        return Ok(Head {
+            continues,
+            error: None,
+        });
+    }
+    let found = members_of(text, scratch)?;
     head_from(alloc, found)
 }
 

@@ -1,5 +1,4 @@
 // The members of a reply, found in its text without a tree.
-ghost use Rattle.std.specs.Prelude.{OnOk};
 ghost use Rattle.serde_json.specs.Data.{Data, Members, put};
 ghost use Rattle.caller_form.specs.Kinds.{IsOfKind};
 ghost use Rattle.caller_form.specs.HeadOf.{AreFound, Ends, Finds, TellsMembers};
@@ -21,7 +20,7 @@ pub struct Found<'a> {
 
 impl<'a> Found<'a> {
     // With one member more, which takes the place of one of its name.
-    pub fn with(self, name: &str, kind: Kind<'a>) -> Found<'a>
+    fn with(self, name: &str, kind: Kind<'a>) -> Found<'a>
         ensures { (ms : Members) (tree : Data) → AreFound self.entry ms → IsOfKind kind.entry tree
             → AreFound result (put name.now tree ms) }
     {
